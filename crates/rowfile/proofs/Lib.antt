@@ -1,0 +1,4 @@
+pub mod Lookups
+pub mod Layouts
+pub mod Listings
+pub mod Adding
