@@ -1,6 +1,11 @@
+pub mod Bits
 pub mod Refusals
+pub mod Records
+pub mod Registers
+pub mod Conditions
 pub mod Classes
 pub mod Widths
 pub mod Units
 pub mod Rows
 pub mod BuiltIn
+pub mod Lawfulness

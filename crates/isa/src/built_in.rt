@@ -1,6 +1,7 @@
 // The repertoire that is built in: twenty-two operations, each on both sides.
 ghost use mathlib.Core.Path.{_≡_};
-ghost use Rattle.isa.specs.BuiltIn.{builtInMap, built-in-lawful};
+ghost use Rattle.isa.specs.BuiltIn.{builtInMap};
+ghost use Rattle.isa.specs.Lawfulness.{built-in-lawful};
 use crate::class::Class;
 use crate::repertoire::Repertoire;
 use crate::row::Row;

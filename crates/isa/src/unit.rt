@@ -1,6 +1,6 @@
 // The two sides of the data path, and the four functional units of each.
 ghost use mathlib.Core.Path.{_≡_};
-ghost use Rattle.isa.specs.Units.{place, permitted, permittedKind, someUnit, otherThanD};
+ghost use Rattle.isa.specs.Units.{place, unitOf, permitted, permittedKind, someUnit, otherThanD};
 
 #[derive(Clone, Copy, Debug, PartialEq, Eq)]
 pub enum Side {
@@ -29,6 +29,21 @@ pub struct Units {
 }
 
 impl FunctionalUnit {
+    // The unit of a number from 1 to 8; 0 is no unit.
+    pub fn from_byte(byte: u8) -> Option<FunctionalUnit>
+        ensures value { λ r. ⌜ r ≡ unitOf byte ⌝ }
+    {
+        let kind = match byte {
+            1 | 5 => UnitKind::L,
+            2 | 6 => UnitKind::S,
+            3 | 7 => UnitKind::M,
+            4 | 8 => UnitKind::D,
+            _ => return None,
+        };
+        let side = if byte < 5 { Side::A } else { Side::B };
+        Some(FunctionalUnit { kind, side })
+    }
+
     // The bit of the unit in a mask.
     pub fn place(self) -> u8
         ensures value { λ r. ⌜ r ≡ place self ⌝ }
