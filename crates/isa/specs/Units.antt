@@ -53,3 +53,8 @@ unitSide n = cond (ltb n 5) A B
 -- the unit of a number: 1 to 4 are .L1 .S1 .M1 .D1, 5 to 8 are .L2 .S2 .M2 .D2
 abbrev pub unitOf : ℕ → Option FunctionalUnit
 unitOf n = cond (leb 1 n && leb n 8) (Some (record { kind = kindAt ((n - 1) % 4); side = unitSide n })) None
+
+-- the other side
+abbrev pub opposite : Side → Side
+opposite A = B
+opposite B = A

@@ -1,6 +1,6 @@
 // The two sides of the data path, and the four functional units of each.
 ghost use mathlib.Core.Path.{_≡_};
-ghost use Rattle.isa.specs.Units.{place, unitOf, permitted, permittedKind, someUnit, otherThanD};
+ghost use Rattle.isa.specs.Units.{opposite, place, unitOf, permitted, permittedKind, someUnit, otherThanD};
 
 #[derive(Clone, Copy, Debug, PartialEq, Eq)]
 pub enum Side {
@@ -26,6 +26,17 @@ pub struct FunctionalUnit {
 #[derive(Clone, Copy, Debug, PartialEq, Eq)]
 pub struct Units {
     pub mask: u8,
+}
+
+impl Side {
+    pub fn opposite(self) -> Side
+        ensures value { λ r. ⌜ r ≡ opposite self ⌝ }
+    {
+        match self {
+            Side::A => Side::B,
+            Side::B => Side::A,
+        }
+    }
 }
 
 impl FunctionalUnit {
