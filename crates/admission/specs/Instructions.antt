@@ -11,12 +11,11 @@ use Rattle.isa.specs.declared.record.Record.{Record}
 use Rattle.isa.specs.declared.refusal.Refusal.{Refusal}
 use Rattle.isa.specs.declared.row.Row.{Row}
 use Rattle.isa.specs.Conditions.{conditionOf}
-use Rattle.isa.specs.Records.{flagX, flagU}
 use Rattle.isa.specs.Refusals.{number}
 use Rattle.isa.specs.Registers.{registerOf}
 use Rattle.isa.specs.Units.{unitOf}
 use Rattle.admission.specs.declared.instruction.Instruction.{Instruction}
-use Rattle.admission.specs.Refusals.{pathOf, Unfit, RefusedBy, Least}
+use Rattle.admission.specs.Refusals.{flagX, flagU, pathOf, RefusedBy, Least}
 
 -- the instruction of a record on its row
 abbrev pub instruction : Row → Record → Instruction

@@ -21,9 +21,9 @@ use Rattle.isa.specs.declared.width.Width.{Width}
 use Rattle.isa.specs.declared.width.Width.the-variants.{Absent, Single, Pair}
 use Rattle.isa.specs.Classes.{accesses}
 use Rattle.isa.specs.Conditions.{conditionOf}
-use Rattle.isa.specs.Records.{flagX, flagT, flagU}
+use Rattle.isa.specs.Records.{flagsOf}
 use Rattle.isa.specs.Registers.{registerOf, sideOf}
-use Rattle.isa.specs.Units.{permitted, unitOf, unitSide, opposite}
+use Rattle.isa.specs.Units.{permitted, unitOf, unitSide, opposite, sameSide}
 use Rattle.isa.specs.Widths.{isSingle}
 
 -- a byte that is neither a register, 0 to 63, nor absent, 255
@@ -76,6 +76,16 @@ wrongFirst Pair n = not (eqb n 255) && eqb (n % 2) 1
 abbrev pub operandMismatch : Row → Record → Bool
 operandMismatch w r = wrongFirst (w .s1) (r .s1) || (wrongOperand (w .s2) (r .s2) || wrongOperand (w .dst) (r .dst))
 
+-- the flags that are set
+abbrev pub flagX : Record → Bool
+flagX r = flagsOf (r .flags) .x
+
+abbrev pub flagT : Record → Bool
+flagT r = flagsOf (r .flags) .t
+
+abbrev pub flagU : Record → Bool
+flagU r = flagsOf (r .flags) .u
+
 -- X is taken by single, two and four cycle operations whose s2 is one register
 abbrev pub takesX : Row → Bool
 takesX w = not (isNop (w .class)) && (not (accesses (w .class)) && isSingle (w .s2))
@@ -84,15 +94,10 @@ takesX w = not (isNop (w .class)) && (not (accesses (w .class)) && isSingle (w .
 abbrev pub flagForbidden : Row → Record → Bool
 flagForbidden w r = (flagX r && not (takesX w)) || ((flagT r || flagU r) && not (accesses (w .class)))
 
--- the register is on that side
-abbrev pub onSide : Side → Register → Bool
-onSide A r = ltb (r .number) 32
-onSide B r = leb 32 (r .number)
-
 -- an operand is present, and on the other side
 abbrev pub elsewhere : Option Register → Side → Bool
 elsewhere None s = false
-elsewhere (Some r) s = not (onSide s r)
+elsewhere (Some r) s = not (sameSide (sideOf r) s)
 
 abbrev pub wrongSide : ℕ → Side → Bool
 wrongSide n s = elsewhere (registerOf n) s

@@ -31,7 +31,7 @@ fn wrong_count(class: Class, count: u8) -> bool
     }
 }
 
-pub fn out_of_range(row: Row, record: Record) -> bool
+pub(crate) fn out_of_range(row: Row, record: Record) -> bool
     ensures value { λ r. ⌜ r ≡ outOfRange row «record» ⌝ }
 {
     record.unit > 8
@@ -43,7 +43,7 @@ pub fn out_of_range(row: Row, record: Record) -> bool
         || wrong_count(row.class, record.count)
 }
 
-pub fn condition_forbidden(row: Row, record: Record) -> bool
+pub(crate) fn condition_forbidden(row: Row, record: Record) -> bool
     ensures value { λ r. ⌜ r ≡ conditionForbidden row «record» ⌝ }
 {
     match row.class {
@@ -52,7 +52,7 @@ pub fn condition_forbidden(row: Row, record: Record) -> bool
     }
 }
 
-pub fn unit_forbidden(row: Row, record: Record) -> bool
+pub(crate) fn unit_forbidden(row: Row, record: Record) -> bool
     ensures value { λ r. ⌜ r ≡ unitForbidden row «record» ⌝ }
 {
     match row.class {
@@ -86,7 +86,7 @@ fn wrong_first(width: Width, byte: u8) -> bool
     }
 }
 
-pub fn operand_mismatch(row: Row, record: Record) -> bool
+pub(crate) fn operand_mismatch(row: Row, record: Record) -> bool
     ensures value { λ r. ⌜ r ≡ operandMismatch row «record» ⌝ }
 {
     wrong_first(row.s1, record.s1)
@@ -98,12 +98,14 @@ pub fn operand_mismatch(row: Row, record: Record) -> bool
 fn flag_forbidden(row: Row, record: Record) -> bool
     ensures value { λ r. ⌜ r ≡ flagForbidden row «record» ⌝ }
 {
+    let flags = record.marks();
     match row.class {
-        Class::Nop => record.x() || record.t() || record.u(),
-        Class::SingleCycle | Class::TwoCycle | Class::FourCycle if record.t() || record.u() => true,
-        Class::SingleCycle | Class::TwoCycle | Class::FourCycle => record.x()
-            && !row.s2.is_single(),
-        Class::Load | Class::Store => record.x(),
+        Class::Nop => flags.x || flags.t || flags.u,
+        Class::SingleCycle | Class::TwoCycle | Class::FourCycle if flags.t || flags.u => true,
+        Class::SingleCycle | Class::TwoCycle | Class::FourCycle => {
+            flags.x && !matches!(row.s2, Width::Single)
+        }
+        Class::Load | Class::Store => flags.x,
     }
 }
 
@@ -111,10 +113,12 @@ fn flag_forbidden(row: Row, record: Record) -> bool
 fn wrong_side(byte: u8, side: Side) -> bool
     ensures value { λ r. ⌜ r ≡ wrongSide byte side ⌝ }
 {
-    match (Register::from_byte(byte), side) {
-        (None, _) => false,
-        (Some(register), Side::A) => register.number >= 32,
-        (Some(register), Side::B) => register.number < 32,
+    match Register::from_byte(byte) {
+        Some(register) => match (register.side(), side) {
+            (Side::A, Side::A) | (Side::B, Side::B) => false,
+            _ => true,
+        },
+        None => false,
     }
 }
 
@@ -128,14 +132,18 @@ fn unit_side(unit: u8) -> Side
 pub(crate) fn path_of(record: Record) -> Side
     ensures value { λ r. ⌜ r ≡ pathOf «record» ⌝ }
 {
-    if record.t() { Side::B } else { Side::A }
+    if record.marks().t { Side::B } else { Side::A }
 }
 
 fn side_of_s2(record: Record) -> Side
     ensures value { λ r. ⌜ r ≡ sideOfS2 «record» ⌝ }
 {
     let side = unit_side(record.unit);
-    if record.x() { side.opposite() } else { side }
+    if record.marks().x {
+        side.opposite()
+    } else {
+        side
+    }
 }
 
 fn side_of_dst(row: Row, record: Record) -> Side
@@ -147,7 +155,7 @@ fn side_of_dst(row: Row, record: Record) -> Side
     }
 }
 
-pub fn side_or_flag(row: Row, record: Record) -> bool
+pub(crate) fn side_or_flag(row: Row, record: Record) -> bool
     ensures value { λ r. ⌜ r ≡ sideOrFlag row «record» ⌝ }
 {
     flag_forbidden(row, record)

@@ -58,3 +58,10 @@ unitOf n = cond (leb 1 n && leb n 8) (Some (record { kind = kindAt ((n - 1) % 4)
 abbrev pub opposite : Side → Side
 opposite A = B
 opposite B = A
+
+-- the two sides are one
+abbrev pub sameSide : Side → Side → Bool
+sameSide A A = true
+sameSide A B = false
+sameSide B A = false
+sameSide B B = true

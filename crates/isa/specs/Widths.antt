@@ -9,12 +9,6 @@ use Rattle.isa.specs.declared.width.Width.the-variants.{Absent, Single, Pair}
 abbrev pub widthOf : ℕ → Width
 widthOf n = cond (eqb n 0) Absent (cond (eqb n 1) Single Pair)
 
--- how many registers an operand of that width covers
-abbrev pub size : Width → ℕ
-size Absent = 0
-size Single = 1
-size Pair = 2
-
 -- there is no operand
 abbrev pub isAbsent : Width → Bool
 isAbsent Absent = true

@@ -3,9 +3,9 @@ ghost use mathlib.Core.Path.{_≡_};
 ghost use mathlib.Core.Bool.{cond};
 ghost use lib.Dec.{leb};
 ghost use Rattle.std.specs.declared.option.Option.the-variants.{Some, None};
-ghost use Rattle.isa.specs.Classes.{classOf, delay, accesses};
+ghost use Rattle.isa.specs.Classes.{classOf, delay};
 
-#[derive(Clone, Copy, Debug, PartialEq, Eq)]
+#[derive(Clone, Copy)]
 pub enum Class {
     Nop,
     SingleCycle,
@@ -41,12 +41,5 @@ impl Class {
             Class::FourCycle => 3,
             Class::Load => 4,
         }
-    }
-
-    // Whether an operation reads or writes memory.
-    pub fn accesses_memory(self) -> bool
-        ensures value { λ r. ⌜ r ≡ accesses self ⌝ }
-    {
-        matches!(self, Class::Load | Class::Store)
     }
 }

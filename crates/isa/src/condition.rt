@@ -2,7 +2,7 @@
 ghost use mathlib.Core.Path.{_≡_};
 ghost use Rattle.isa.specs.Conditions.{cregOf, conditionOf};
 
-#[derive(Clone, Copy, Debug, PartialEq, Eq)]
+#[derive(Clone, Copy)]
 pub enum ConditionRegister {
     B0,
     B1,
@@ -12,7 +12,7 @@ pub enum ConditionRegister {
     A0,
 }
 
-#[derive(Clone, Copy, Debug, PartialEq, Eq)]
+#[derive(Clone, Copy)]
 pub enum Condition {
     Always,
     Nonzero(ConditionRegister),
@@ -21,7 +21,7 @@ pub enum Condition {
 
 impl ConditionRegister {
     // The condition register of a creg from 1 to 6.
-    pub fn from_creg(creg: u8) -> Option<ConditionRegister>
+    fn from_creg(creg: u8) -> Option<ConditionRegister>
         ensures value { λ r. ⌜ r ≡ cregOf creg ⌝ }
     {
         match creg {

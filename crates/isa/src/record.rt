@@ -6,7 +6,7 @@ ghost use lib.ListN.{length};
 ghost use Rattle.std.specs.Results.{Cases};
 ghost use Rattle.isa.specs.declared.refusal.Refusal.the-variants.{BlockLayout};
 ghost use Rattle.isa.specs.declared.record.Record.{Record};
-ghost use Rattle.isa.specs.Records.{bytes, flagP, flagX, flagT, flagU};
+ghost use Rattle.isa.specs.Records.{bytes, flagsOf};
 use crate::refusal::Refusal;
 
 #[derive(Clone, Copy, Debug, PartialEq, Eq)]
@@ -19,6 +19,19 @@ pub struct Record {
     pub s2: u8,
     pub dst: u8,
     pub count: u8,
+}
+
+// The flags of a record.
+#[derive(Clone, Copy)]
+pub struct Flags {
+    // the next record belongs to the same packet
+    pub p: bool,
+    // s2 comes over the cross path
+    pub x: bool,
+    // memory is reached over the data path of side B
+    pub t: bool,
+    // the address register is updated
+    pub u: bool,
 }
 
 impl Record {
@@ -71,31 +84,14 @@ impl Record {
         ]
     }
 
-    // p: the next record belongs to the same packet.
-    pub fn p(self) -> bool
-        ensures value { λ r. ⌜ r ≡ flagP self ⌝ }
+    pub fn marks(self) -> Flags
+        ensures value { λ r. ⌜ r ≡ flagsOf (self .flags) ⌝ }
     {
-        self.flags % 2 == 1
-    }
-
-    // X: s2 comes over the cross path.
-    pub fn x(self) -> bool
-        ensures value { λ r. ⌜ r ≡ flagX self ⌝ }
-    {
-        (self.flags >> 1) % 2 == 1
-    }
-
-    // T: memory is reached over the data path of side B.
-    pub fn t(self) -> bool
-        ensures value { λ r. ⌜ r ≡ flagT self ⌝ }
-    {
-        (self.flags >> 2) % 2 == 1
-    }
-
-    // U: the address register is updated.
-    pub fn u(self) -> bool
-        ensures value { λ r. ⌜ r ≡ flagU self ⌝ }
-    {
-        (self.flags >> 3) % 2 == 1
+        Flags {
+            p: self.flags % 2 == 1,
+            x: (self.flags >> 1) % 2 == 1,
+            t: (self.flags >> 2) % 2 == 1,
+            u: (self.flags >> 3) % 2 == 1,
+        }
     }
 }

@@ -3,7 +3,7 @@ ghost use mathlib.Core.Path.{_≡_};
 ghost use Rattle.isa.specs.Registers.{registerOf, sideOf, oddOf};
 use crate::unit::Side;
 
-#[derive(Clone, Copy, Debug, PartialEq, Eq)]
+#[derive(Clone, Copy, PartialEq, Eq)]
 pub struct Register {
     pub number: u8,
 }

@@ -2,16 +2,10 @@
 ghost use mathlib.Core.Path.{_≡_};
 ghost use Rattle.isa.specs.Rows.{keepsRule};
 use crate::class::Class;
-use crate::class::ClassDebug;
-use crate::class::ClassPartialEq;
 use crate::unit::Units;
-use crate::unit::UnitsDebug;
-use crate::unit::UnitsPartialEq;
 use crate::width::Width;
-use crate::width::WidthDebug;
-use crate::width::WidthPartialEq;
 
-#[derive(Clone, Copy, Debug, PartialEq, Eq)]
+#[derive(Clone, Copy)]
 pub struct Row {
     pub class: Class,
     pub units: Units,

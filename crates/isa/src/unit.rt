@@ -2,13 +2,13 @@
 ghost use mathlib.Core.Path.{_≡_};
 ghost use Rattle.isa.specs.Units.{opposite, place, unitOf, permitted, permittedKind, someUnit, otherThanD};
 
-#[derive(Clone, Copy, Debug, PartialEq, Eq)]
+#[derive(Clone, Copy, PartialEq, Eq)]
 pub enum Side {
     A,
     B,
 }
 
-#[derive(Clone, Copy, Debug, PartialEq, Eq)]
+#[derive(Clone, Copy, PartialEq, Eq)]
 pub enum UnitKind {
     L,
     S,
@@ -16,14 +16,14 @@ pub enum UnitKind {
     D,
 }
 
-#[derive(Clone, Copy, Debug, PartialEq, Eq)]
+#[derive(Clone, Copy, PartialEq, Eq)]
 pub struct FunctionalUnit {
     pub kind: UnitKind,
     pub side: Side,
 }
 
 // The units that an operation may name: unit u, counted from 1, is bit u - 1 of the mask.
-#[derive(Clone, Copy, Debug, PartialEq, Eq)]
+#[derive(Clone, Copy)]
 pub struct Units {
     pub mask: u8,
 }
@@ -56,7 +56,7 @@ impl FunctionalUnit {
     }
 
     // The bit of the unit in a mask.
-    pub fn place(self) -> u8
+    fn place(self) -> u8
         ensures value { λ r. ⌜ r ≡ place self ⌝ }
     {
         let first = match self.side {
@@ -80,7 +80,7 @@ impl Units {
     }
 
     // Whether a unit of that kind is permitted, on either side.
-    pub fn permit_kind(self, kind: UnitKind) -> bool
+    fn permit_kind(self, kind: UnitKind) -> bool
         ensures value { λ r. ⌜ r ≡ permittedKind self kind ⌝ }
     {
         self.permit(FunctionalUnit {
@@ -94,7 +94,7 @@ impl Units {
     }
 
     // Whether a unit other than .D1 and .D2 is permitted.
-    pub fn permit_other_than_d(self) -> bool
+    pub(crate) fn permit_other_than_d(self) -> bool
         ensures value { λ r. ⌜ r ≡ otherThanD self ⌝ }
     {
         self.permit_kind(UnitKind::L)

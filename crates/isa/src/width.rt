@@ -3,9 +3,9 @@ ghost use mathlib.Core.Path.{_≡_};
 ghost use mathlib.Core.Bool.{cond};
 ghost use lib.Dec.{leb};
 ghost use Rattle.std.specs.declared.option.Option.the-variants.{Some, None};
-ghost use Rattle.isa.specs.Widths.{widthOf, size, isAbsent, isSingle};
+ghost use Rattle.isa.specs.Widths.{widthOf, isAbsent, isSingle};
 
-#[derive(Clone, Copy, Debug, PartialEq, Eq)]
+#[derive(Clone, Copy)]
 pub enum Width {
     Absent,
     Single,
@@ -25,24 +25,13 @@ impl Width {
         }
     }
 
-    // The number of registers.
-    pub fn registers(self) -> u8
-        ensures value { λ r. ⌜ r ≡ size self ⌝ }
-    {
-        match self {
-            Width::Absent => 0,
-            Width::Single => 1,
-            Width::Pair => 2,
-        }
-    }
-
-    pub fn is_absent(self) -> bool
+    pub(crate) fn is_absent(self) -> bool
         ensures value { λ r. ⌜ r ≡ isAbsent self ⌝ }
     {
         matches!(self, Width::Absent)
     }
 
-    pub fn is_single(self) -> bool
+    pub(crate) fn is_single(self) -> bool
         ensures value { λ r. ⌜ r ≡ isSingle self ⌝ }
     {
         matches!(self, Width::Single)

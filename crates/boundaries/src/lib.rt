@@ -1,0 +1,5 @@
+// Tests at the boundaries of the refusals, run from outside the crates that they are about.
+#[cfg(test)]
+mod admission_tests;
+#[cfg(test)]
+mod file_tests;
