@@ -2,4 +2,8 @@
 #[cfg(test)]
 mod admission_tests;
 #[cfg(test)]
+mod claim_tests;
+#[cfg(test)]
 mod file_tests;
+#[cfg(test)]
+mod run_tests;

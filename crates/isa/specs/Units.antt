@@ -10,7 +10,7 @@ use Rattle.isa.specs.declared.unit.UnitKind.{UnitKind}
 use Rattle.isa.specs.declared.unit.UnitKind.the-variants.{L, S, M, D}
 use Rattle.isa.specs.declared.unit.FunctionalUnit.{FunctionalUnit}
 use Rattle.isa.specs.declared.unit.Units.{Units}
-use Rattle.isa.specs.Bits.{bit}
+use Rattle.isa.specs.Bits.{isSet}
 
 -- the number of a unit from 0: .L1 .S1 .M1 .D1, then .L2 .S2 .M2 .D2
 abbrev pub placeOn : ℕ → UnitKind → ℕ
@@ -28,7 +28,7 @@ place f = placeBy (f .side) (f .kind)
 
 -- the unit is permitted: unit u, counted from 1, is bit u - 1 of the mask
 abbrev pub permitted : Units → FunctionalUnit → Bool
-permitted u f = bit (u .mask) (place f)
+permitted u f = isSet (u .mask) (place f)
 
 -- a unit of that kind is permitted, on either side
 abbrev pub permittedKind : Units → UnitKind → Bool

@@ -1,0 +1,4 @@
+pub mod Claims
+pub mod Kinds
+pub mod Landings
+pub mod Mutual

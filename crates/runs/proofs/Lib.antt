@@ -1,0 +1,4 @@
+pub mod Table
+pub mod Sets
+pub mod Expanding
+pub mod Carrying
