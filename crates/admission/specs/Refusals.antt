@@ -76,13 +76,15 @@ wrongFirst Pair n = not (eqb n 255) && eqb (n % 2) 1
 abbrev pub operandMismatch : Row → Record → Bool
 operandMismatch w r = wrongFirst (w .s1) (r .s1) || (wrongOperand (w .s2) (r .s2) || wrongOperand (w .dst) (r .dst))
 
--- the flags that are set
+-- X is set
 abbrev pub flagX : Record → Bool
 flagX r = flagsOf (r .flags) .x
 
+-- T is set
 abbrev pub flagT : Record → Bool
 flagT r = flagsOf (r .flags) .t
 
+-- U is set
 abbrev pub flagU : Record → Bool
 flagU r = flagsOf (r .flags) .u
 
@@ -99,6 +101,7 @@ abbrev pub elsewhere : Option Register → Side → Bool
 elsewhere None s = false
 elsewhere (Some r) s = not (sameSide (sideOf r) s)
 
+-- the operand of a byte is present, and on the other side
 abbrev pub wrongSide : ℕ → Side → Bool
 wrongSide n s = elsewhere (registerOf n) s
 

@@ -4,6 +4,8 @@ mod admission_tests;
 #[cfg(test)]
 mod claim_tests;
 #[cfg(test)]
+mod count_tests;
+#[cfg(test)]
 mod file_tests;
 #[cfg(test)]
 mod run_tests;

@@ -26,23 +26,25 @@ use Rattle.claims.specs.declared.port.PortClaim.{PortClaim}
 use Rattle.claims.specs.declared.write.Landing.{Landing}
 use Rattle.claims.specs.declared.write.WriteClaim.{WriteClaim}
 
--- the side of the .M unit that an instruction names
+-- the side of a unit, if it is an .M unit
 abbrev pub sideOfM : UnitKind → Side → Option Side
 sideOfM L s = None
 sideOfM S s = None
 sideOfM M s = Some s
 sideOfM D s = None
 
+-- the side of the .M unit that an instruction names, if it names one
 abbrev pub portSide : Option FunctionalUnit → Option Side
 portSide None = None
 portSide (Some u) = sideOfM (u .kind) (u .side)
 
--- the results that may share a cycle are those of one register, of a four and of a two cycle operation
+-- only a result of one register may share its cycle
 abbrev pub ofWidth : PortResult → Width → PortResult
 ofWidth p Absent = Other
 ofWidth p Single = p
 ofWidth p Pair = Other
 
+-- what decides whether a result may share its cycle: a four or a two cycle operation, with one register
 abbrev pub portResult : Class → Width → PortResult
 portResult Nop w = Other
 portResult SingleCycle w = Other

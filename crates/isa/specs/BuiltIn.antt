@@ -14,16 +14,19 @@ use Rattle.isa.specs.declared.row.Row.{Row}
 abbrev row : Class → ℕ → Bool → Width → Width → Width → Row
 row k mask n a b d = record { class = k; units = record { mask = mask }; nonaligned = n; s1 = a; s2 = b; dst = d }
 
--- the masks: .L .S .D, then .S, .M and .D alone, on both sides
+-- the mask of .L, .S and .D on both sides
 abbrev lsd : ℕ
 lsd = 0b1011_1011
 
+-- of .S on both sides
 abbrev s : ℕ
 s = 0b0010_0010
 
+-- of .M on both sides
 abbrev m : ℕ
 m = 0b0100_0100
 
+-- of .D on both sides
 abbrev d : ℕ
 d = 0b1000_1000
 

@@ -12,17 +12,19 @@ use Rattle.isa.specs.declared.unit.FunctionalUnit.{FunctionalUnit}
 use Rattle.isa.specs.declared.unit.Units.{Units}
 use Rattle.isa.specs.Bits.{isSet}
 
--- the number of a unit from 0: .L1 .S1 .M1 .D1, then .L2 .S2 .M2 .D2
+-- the number of a unit of a side whose first has the number given
 abbrev pub placeOn : ℕ → UnitKind → ℕ
 placeOn first L = first
 placeOn first S = first + 1
 placeOn first M = first + 2
 placeOn first D = first + 3
 
+-- side A has the first four numbers, side B the next
 abbrev pub placeBy : Side → UnitKind → ℕ
 placeBy A k = placeOn 0 k
 placeBy B k = placeOn 4 k
 
+-- the number of a unit from 0: .L1 .S1 .M1 .D1, then .L2 .S2 .M2 .D2
 abbrev pub place : FunctionalUnit → ℕ
 place f = placeBy (f .side) (f .kind)
 

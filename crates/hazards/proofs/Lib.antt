@@ -1,0 +1,4 @@
+pub mod Slots
+pub mod Sums
+pub mod Finding
+pub mod Longest
