@@ -1,4 +1,6 @@
 // Tests at the boundaries of the refusals, run from outside the crates that they are about.
+#![tactic(auto)]
+
 #[cfg(test)]
 mod admission_tests;
 #[cfg(test)]

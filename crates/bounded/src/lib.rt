@@ -1,2 +1,4 @@
 // Lists of a bounded length, kept in place: nothing is allocated.
+#![tactic(auto)]
+
 pub mod list;

@@ -1,2 +1,4 @@
 // The constraints on a packet behind those accepted before it, and the faults it is refused with.
+#![tactic(auto)]
+
 pub mod fault;

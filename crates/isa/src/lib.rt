@@ -1,4 +1,6 @@
 // The machine's vocabulary: records, registers, units, classes, rows and the repertoires that hold them.
+#![tactic(auto)]
+
 pub mod built_in;
 pub mod class;
 pub mod condition;

@@ -1,4 +1,6 @@
 // Tests of the verdict on whole schedules, run from outside the crates that they are about.
+#![tactic(auto)]
+
 #[cfg(test)]
 mod beside_tests;
 #[cfg(test)]

@@ -1,4 +1,6 @@
 // Prints what a row file on standard input says, a line for each row.
+#![tactic(auto)]
+
 use rowfile::listing::{LISTING_BYTES, list_rows};
 use std::io::{Read, Write};
 

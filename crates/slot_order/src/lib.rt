@@ -1,1 +1,2 @@
 // The order of slots makes no difference to answers, and a book has one answer to a call.
+#![tactic(auto)]

@@ -1,2 +1,4 @@
 // The worked trials of the rules, as one proposition.
+#![tactic(auto)]
+
 pub mod trials;
