@@ -1,5 +1,5 @@
 -- Texts that are added one after another. Assumes nothing.
-use Rattle.std.proofs.Common.{◌≡◌, ℕ, ◌+◌, ◌<◌, ◌≤◌, Bool, true, false, cond, List, [], ◌∷◌, ◌++◌, length, get_or, take, vec_items, vec_len, vec_capacity, Vec, sym, refl, ap, ◌∙◌, subst, append_assoc, append_nil, arith, lit≤, length-append}
+use Rattle.std.proofs.Common.{◌≡◌, ℕ, ◌+◌, ◌<◌, ◌≤◌, Bool, true, false, cond, List, [], ◌∷◌, ◌++◌, length, get_or, take, vec_items, vec_len, vec_capacity, Vec, sym, refl, ap, ◌∙◌, subst, append_assoc, append-nil, arith, lit≤, length-append}
 use Rattle.std.proofs.lemmas.List.{take_more}
 use Rattle.std.specs.declared.alloc.Global.{Global}
 use Rattle.isa.specs.declared.class.Class.{Class}
@@ -13,7 +13,7 @@ use Rattle.isa.specs.declared.unit.UnitKind.TheVariants.{L, S, M, D}
 use Rattle.rowfile.specs.Listings.{Adds, class_name, width_name, unit_name, alignment_name, entry_line, entry_lines}
 
 pub adds_none : (v : Vec ℕ Global) → Adds v v []
-adds_none v = record { items = sym (append_nil (vec_items v)); len = omega arith; capacity = omega arith }
+adds_none v = record { items = sym (append-nil (vec_items v)); len = omega arith; capacity = omega arith }
 
 pub adds_then : {u v w : Vec ℕ Global} {s t : List ℕ} → Adds u v s → Adds v w t → Adds u w (s ++ t)
 adds_then {u} {v} {w} {s} {t} a b = record {
@@ -62,7 +62,7 @@ length_class Load = lit≤ tt
 length_class Store = lit≤ tt
 
 lines_push : (es : List (List ℕ)) (e : List ℕ) → entry_lines (es ++ e ∷ []) ≡ entry_lines es ++ entry_line e
-lines_push [] e = append_nil (entry_line e)
+lines_push [] e = append-nil (entry_line e)
 lines_push (d ∷ es) e = ap (λ l. entry_line d ++ l) (lines_push es e) ∙ sym (append_assoc (entry_line d) (entry_lines es) (entry_line e))
 
 pub lines_more : (es : List (List ℕ)) (i : ℕ) → i < length es → entry_lines (take i es) ++ entry_line (get_or es i []) ≡ entry_lines (take (i + 1) es)

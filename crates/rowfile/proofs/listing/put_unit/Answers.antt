@@ -8,7 +8,7 @@ unfolding unit_text
 returns-then-permit c =
     let name = unit_name (record { kind = c.args.kind; side = c.args.side }) in
     let e = first _ name [] c.if-permit.ensures.value in
-    record { adds = adds_is (c.unit-name.ensures.value ∙ e) c.put.ensures.adds; short = subst (λ t. length t ≤ 4) e (omega (arith, length_unit c.args.kind c.args.side)) }
+    record { adds = adds_is (c.unit_name.ensures.value ∙ e) c.put.ensures.adds; short = subst (λ t. length t ≤ 4) e (omega (arith, length_unit c.args.kind c.args.side)) }
 
 pub returns-else-permit : goal.returns-else-permit
 unfolding unit_text

@@ -15,8 +15,8 @@ pub returns : goal.returns
 unfolding units_text
 returns c =
     let u = c.args.units in
-    let e = first _ (side_text u A ++ side_text u B) (codes " none") c.if-not-permit-some.ensures.value in
+    let e = first _ (side_text u A ++ side_text u B) (codes " none") c.if-not-permit_some.ensures.value in
     record {
-      adds = adds_is e (adds_then c.put-side.ensures.adds c.put-side-2.ensures.adds);
-      short = subst (λ t. length t ≤ 32) e (omega (arith, length-append (side_text u A) (side_text u B), c.put-side.ensures.short, c.put-side-2.ensures.short));
+      adds = adds_is e (adds_then c.put_side.ensures.adds c.put_side-2.ensures.adds);
+      short = subst (λ t. length t ≤ 32) e (omega (arith, length-append (side_text u A) (side_text u B), c.put_side.ensures.short, c.put_side-2.ensures.short));
     }

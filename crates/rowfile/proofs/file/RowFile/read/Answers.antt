@@ -26,8 +26,8 @@ pub returns : goal.returns
 returns c =
     let bs = c.args.bytes.now in
     let told = c.in-Some.ensures.cases in
-    let rising = c.if-not-all-rising.ensures.value.0 refl in
+    let rising = c.if-not-all_rising.ensures.value.0 refl in
     record {
-      cases = ((omega arith, omega arith), record { laid = told.0; readable = each_in _ _ told.1 Readable (c.if-not-all-readable.ensures.value.0 refl); rising = pairs_in _ _ told.1 Below rising }, told.1);
+      cases = ((omega arith, omega arith), record { laid = told.0; readable = each_in _ _ told.1 Readable (c.if-not-all_readable.ensures.value.0 refl); rising = pairs_in _ _ told.1 Below rising }, told.1);
       map = subst (λ es. MapOfFile bs (entries_map es)) (sym told.1) (map_of_file bs (subst Rising told.1 (λ i h. rw (← add-one i) (rising i (rw add-one h)))));
     }

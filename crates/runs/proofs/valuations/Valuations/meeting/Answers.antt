@@ -26,17 +26,17 @@ returns-in-Always c = record { members = by_case 0xffff_ffff_ffff_ffff c.args.co
 pub returns-in-Nonzero : goal.returns-in-Nonzero
 returns-in-Nonzero c =
     let r = c.in-Nonzero.register in
-    let e = c.place-of.ensures.value in
+    let e = c.place_of.ensures.value in
     record {
-      members = by_case (high c.place-of.result) c.args.condition (Nonzero r) c.in-Nonzero.is
+      members = by_case (high c.place_of.result) c.args.condition (Nonzero r) c.in-Nonzero.is
           (λ v hv. let b = ap (λ i. bit (high i) v) e ∙ high_at (place r) v (place_lt r) hv in (λ h. sym b ∙ h, λ h. b ∙ h));
     }
 
 pub returns-in-Zero : goal.returns-in-Zero
 returns-in-Zero c =
     let r = c.in-Zero.register in
-    let e = c.place-of-in-Zero.ensures.value in
+    let e = c.place_of-in-Zero.ensures.value in
     record {
-      members = by_case ((2 ^ 64 - 1) - high c.place-of-in-Zero.result) c.args.condition (Zero r) c.in-Zero.is
+      members = by_case ((2 ^ 64 - 1) - high c.place_of-in-Zero.result) c.args.condition (Zero r) c.in-Zero.is
           (λ v hv. let b = ap (λ i. bit ((2 ^ 64 - 1) - high i) v) e ∙ low_at (place r) v (place_lt r) hv in (λ h. omega (arith, b, h), λ h. b ∙ omega (arith, h)));
     }
