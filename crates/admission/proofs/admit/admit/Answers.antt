@@ -8,6 +8,6 @@ returns-in-Some g c =
     let told = c.in-Some.ensures in
     let r = c.args.«record» in
     record {
-      admits = subst (λ o. Admits o r c.admit-on.result) told c.admit-on.ensures.admits;
-      lawful = lawful_row_lem c.in-Some.row r c.admit-on.result (g.R.Repertoire.lawful c.args.repertoire.now r.operation c.in-Some.row (sym told)) c.admit-on.ensures.admits;
+      admits = subst (λ o. Admits o r c.admit_on.result) told c.admit_on.ensures.admits;
+      lawful = lawful_row_lem c.in-Some.row r c.admit_on.result (g.R.Repertoire.lawful c.args.repertoire.now r.operation c.in-Some.row (sym told)) c.admit_on.ensures.admits;
     }

@@ -15,12 +15,12 @@ loop-call-preserved g c =
     let kept = c.call.ensures.rules in (
       λ b stands.
           performs_more (rules_of (rows first.repertoire) first) (rules_of (rows here.repertoire) here) b c.args.calls.now c.loop-call.call-index _ (vec_items c.args.answers.now)
-          (vec_items c.loop-call.answers) (vec_items c.push-reserved.new.self) here c.call.new.self c.call.result c.loop-call-test.true
-          (same_rules rows here first inv.1 inv.2) (inv.0 b stands) c.call.ensures.serves c.push-reserved.ensures.items,
+          (vec_items c.loop-call.answers) (vec_items c.push_reserved.new.self) here c.call.new.self c.call.result c.loop-call-test.true
+          (same_rules rows here first inv.1 inv.2) (inv.0 b stands) c.call.ensures.serves c.push_reserved.ensures.items,
       kept.0 ∙ inv.1,
       kept.1 ∙ inv.2,
-      omega (arith, c.push-reserved.ensures.len, inv.3),
-      c.push-reserved.ensures.capacity ∙ inv.4,
+      omega (arith, c.push_reserved.ensures.len, inv.3),
+      c.push_reserved.ensures.capacity ∙ inv.4,
     )
 
 pub returns : goal.returns

@@ -9,18 +9,18 @@ use Rattle.checker.proofs.Performing.{answers_of}
 use Rattle.checker.proofs.Replaying.{only_answers, never_overclaimed, order_free}
 use Rattle.checker.proofs.replay.replay.Goals as goal
 
-pub returns-in-err-reserve : goal.returns-in-err-reserve
-returns-in-err-reserve g c =
+pub returns-in_err-reserve : goal.returns-in_err-reserve
+returns-in_err-reserve g c =
     let e = c.from-residual.ensures.0 in
     record {
       opening = IfOk-from_err _ _ e;
-      answers-as-the-book = MatchResult-from_err _ _ _ e (λ _. c.reserve.ensures.items);
+      answers_as_the_book = MatchResult-from_err _ _ _ e (λ _. c.reserve.ensures.items);
       only_answers = IfOk-from_err _ _ e;
-      some-answer = λ k b c. (answer k b c, answer_says k b c);
+      some_answer = λ k b c. (answer k b c, answer_says k b c);
       never_overclaimed = IfOk-from_err _ _ e;
-      runs-exist = λ ps. some_run c.args.lawful ps (omega arith);
+      runs_exist = λ ps. some_run c.args.lawful ps (omega arith);
       slot_order_free = IfOk-from_err _ _ e;
-      succeeds = λ room. absurd (omega (arith, room, c.in-err-reserve.ensures.full));
+      succeeds = λ room. absurd (omega (arith, room, c.in_err-reserve.ensures.full));
     }
 
 pub returns : goal.returns
@@ -34,11 +34,11 @@ returns g c =
     c.reserve.ensures.items (c.perform.ensures.performs (opened c.args.lawful) c.open-checker.ensures.stands) in
     record {
       opening = c.open-checker.ensures.refused;
-      answers-as-the-book = from;
+      answers_as_the_book = from;
       only_answers = only_answers k cs old new from;
-      some-answer = λ k b c. (answer k b c, answer_says k b c);
+      some_answer = λ k b c. (answer k b c, answer_says k b c);
       never_overclaimed = never_overclaimed k cs old new from;
-      runs-exist = λ ps. some_run c.args.lawful ps (omega arith);
+      runs_exist = λ ps. some_run c.args.lawful ps (omega arith);
       slot_order_free = order_free k cs old new from;
       succeeds = λ _. refl;
     }

@@ -6,7 +6,7 @@ use Rattle.flight.proofs.changes.freed_by.Goals as goal
 
 pub returns : goal.returns
 returns c =
-    let same = c.condition-bit.ensures.value in
+    let same = c.condition_bit.ensures.value in
     let is = c.in-Some.is in
     record {
       bits = λ i hi. (

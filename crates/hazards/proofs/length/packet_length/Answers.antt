@@ -7,8 +7,8 @@ loop-instruction-init c = (omega (arith, at_least_one c.args.packet.now), omega 
 
 pub loop-instruction-preserved : goal.loop-instruction-preserved
 loop-instruction-preserved c = (
-  longest_more c.args.packet.now c.loop-instruction.instruction-index _ c.loop-instruction.longest c.nop-cycles.result c.max-longest.result _
-      c.loop-instruction-test.true c.loop-instruction.invariant.0 c.nop-cycles.ensures.value c.max-longest.ensures,
+  longest_more c.args.packet.now c.loop-instruction.instruction-index _ c.loop-instruction.longest c.nop_cycles.result c.max-longest.result _
+      c.loop-instruction-test.true c.loop-instruction.invariant.0 c.nop_cycles.ensures.value c.max-longest.ensures,
   omega (arith, c.max-longest.ensures, c.loop-instruction.invariant.1),
 )
 

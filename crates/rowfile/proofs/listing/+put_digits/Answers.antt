@@ -8,19 +8,19 @@ one n h = ap length (decimal_digit n h)
 more : (n : ℕ) → 10 ≤ n → n < 65536 → length (decimal n) ≡ length (decimal (n / 10)) + 1
 more n h k = ap length (decimal_step n h (omega arith)) ∙ length-append (decimal (n / 10)) ((48 + n % 10) ∷ [])
 
-pub push-reserved-requires : goal.push-reserved-requires
-push-reserved-requires t c = omega (arith, one c.args.n c.if-n-lt10.true)
+pub push_reserved-requires : goal.push_reserved-requires
+push_reserved-requires t c = omega (arith, one c.args.n c.if-n-lt10.true)
 
 pub returns-then-n-lt10 : goal.returns-then-n-lt10
 returns-then-n-lt10 t c =
     let e = decimal_digit c.args.n c.if-n-lt10.true in
-    record { adds = record { items = rw e c.push-reserved.ensures.items; len = rw e c.push-reserved.ensures.len; capacity = search rules } }
+    record { adds = record { items = rw e c.push_reserved.ensures.items; len = rw e c.push_reserved.ensures.len; capacity = search rules } }
 
-pub put-digits-requires : goal.put-digits-requires
-put-digits-requires t c = (search rules, omega (arith, more c.args.n c.if-n-lt10.false (search rules)))
+pub put_digits-requires : goal.put_digits-requires
+put_digits-requires t c = (search rules, omega (arith, more c.args.n c.if-n-lt10.false (search rules)))
 
-pub push-reserved-requires-2 : goal.push-reserved-requires-2
-push-reserved-requires-2 t c = omega (arith, more c.args.n c.if-n-lt10.false (search rules))
+pub push_reserved-requires-2 : goal.push_reserved-requires-2
+push_reserved-requires-2 t c = omega (arith, more c.args.n c.if-n-lt10.false (search rules))
 
 pub returns : goal.returns
 returns t c =

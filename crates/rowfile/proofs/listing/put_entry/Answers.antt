@@ -8,10 +8,10 @@ pub returns-in-Some : goal.returns-in-Some
 unfolding entry_line
 returns-in-Some c =
     let e = ap (line_of (operation c.args.entry.now)) c.in-Some.ensures.value in
-    record { adds = adds_is e c.put-row.ensures.adds; short = subst (λ t. length t ≤ 96) e c.put-row.ensures.short }
+    record { adds = adds_is e c.put_row.ensures.adds; short = subst (λ t. length t ≤ 96) e c.put_row.ensures.short }
 
-pub returns-in-default : goal.returns-in-default
+pub returns-in_default : goal.returns-in_default
 unfolding entry_line
-returns-in-default c =
-    let e = ap (line_of (operation c.args.entry.now)) c.in-default.ensures.value in
+returns-in_default c =
+    let e = ap (line_of (operation c.args.entry.now)) c.in_default.ensures.value in
     record { adds = adds_is e (adds_none _); short = subst (λ t. length t ≤ 96) e (omega arith) }

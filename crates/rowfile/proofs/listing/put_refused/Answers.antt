@@ -5,4 +5,4 @@ use Rattle.rowfile.proofs.listing.put_refused.Goals as goal
 
 pub returns : goal.returns
 unfolding refused_text
-returns c = record { adds = adds_then c.put.ensures.adds (adds_then (adds_is (ap decimal c.number.ensures.value) c.put-number.ensures.adds) c.put-2.ensures.adds) }
+returns c = record { adds = adds_then c.put.ensures.adds (adds_then (adds_is (ap decimal c.number.ensures.value) c.put_number.ensures.adds) c.put-2.ensures.adds) }

@@ -4,11 +4,11 @@ use Rattle.rowfile.specs.Listings.{side_text, units_text}
 use Rattle.rowfile.proofs.Adding.{adds_then, adds_is, first, second}
 use Rattle.rowfile.proofs.listing.put_units.Goals as goal
 
-pub returns-then-not-permit-some : goal.returns-then-not-permit-some
+pub returns-then-not-permit_some : goal.returns-then-not-permit_some
 unfolding units_text
-returns-then-not-permit-some c =
+returns-then-not-permit_some c =
     let u = c.args.units in
-    let e = second _ (side_text u A ++ side_text u B) (codes " none") c.if-not-permit-some.ensures.value in
+    let e = second _ (side_text u A ++ side_text u B) (codes " none") c.if-not-permit_some.ensures.value in
     record { adds = adds_is e c.put.ensures.adds; short = subst (λ t. length t ≤ 32) e (lit≤ tt) }
 
 pub returns : goal.returns

@@ -71,42 +71,42 @@ module _ (lawful start : Valuations) (past : List (List Instruction)) (xs : List
   fault_operand : (f : Fault) → Passes lawful start past xs 11 15 → FirstFault (Pair kinds.CrossOperands) zs 0 CrossPathOperands f → FaultFrom lawful start past xs 11 f
   fault_operand f before p = fault CrossPathOperands (omega arith) kinds.CrossOperands beside_cross (λ x y s. inr (inr (inr (inr (refl, s))))) cross_operands_mutual 11 f (omega arith) before p
 
-pub returns-in-err-no-clash : goal.returns-in-err-no-clash
-returns-in-err-no-clash c = record {
+pub returns-in_err-no_clash : goal.returns-in_err-no_clash
+returns-in_err-no_clash c = record {
   cases = λ lawful start past xs own.
       let zs = c.args.own.now in
-      exit (λ _. Passes lawful start past xs 11 16) (FaultFrom lawful start past xs 11) c.from-residual.result c.in-err-no-clash.field-0.0 c.from-residual.ensures.1
-      (fault_unit lawful start past xs zs own c.in-err-no-clash.field-0.0 (passes_none lawful start past xs 11) c.in-err-no-clash.ensures.cases);
+      exit (λ _. Passes lawful start past xs 11 16) (FaultFrom lawful start past xs 11) c.from-residual.result c.in_err-no_clash.field-0.0 c.from-residual.ensures.1
+      (fault_unit lawful start past xs zs own c.in_err-no_clash.field-0.0 (passes_none lawful start past xs 11) c.in_err-no_clash.ensures.cases);
 }
 
-pub returns-in-err-no-clash-2 : goal.returns-in-err-no-clash-2
-returns-in-err-no-clash-2 c = record {
+pub returns-in_err-no_clash-2 : goal.returns-in_err-no_clash-2
+returns-in_err-no_clash-2 c = record {
   cases = λ lawful start past xs own.
       let zs = c.args.own.now in
-      exit (λ _. Passes lawful start past xs 11 16) (FaultFrom lawful start past xs 11) c.from-residual-in-err-no-clash-2.result c.in-err-no-clash-2.field-0.0 c.from-residual-in-err-no-clash-2.ensures.1
-      (fault_nop lawful start past xs zs own c.in-err-no-clash-2.field-0.0 (passes_unit lawful start past xs zs own (passes_none lawful start past xs 11) c.in-ok-no-clash.ensures.cases) c.in-err-no-clash-2.ensures.cases);
+      exit (λ _. Passes lawful start past xs 11 16) (FaultFrom lawful start past xs 11) c.from-residual-in_err-no_clash-2.result c.in_err-no_clash-2.field-0.0 c.from-residual-in_err-no_clash-2.ensures.1
+      (fault_nop lawful start past xs zs own c.in_err-no_clash-2.field-0.0 (passes_unit lawful start past xs zs own (passes_none lawful start past xs 11) c.in_ok-no_clash.ensures.cases) c.in_err-no_clash-2.ensures.cases);
 }
 
-pub returns-in-err-no-clash-3 : goal.returns-in-err-no-clash-3
-returns-in-err-no-clash-3 c = record {
+pub returns-in_err-no_clash-3 : goal.returns-in_err-no_clash-3
+returns-in_err-no_clash-3 c = record {
   cases = λ lawful start past xs own.
       let zs = c.args.own.now in
-      exit (λ _. Passes lawful start past xs 11 16) (FaultFrom lawful start past xs 11) c.from-residual-in-err-no-clash-3.result c.in-err-no-clash-3.field-0.0 c.from-residual-in-err-no-clash-3.ensures.1
-      (fault_path lawful start past xs zs own c.in-err-no-clash-3.field-0.0 (passes_nop lawful start past xs zs own (passes_unit lawful start past xs zs own (passes_none lawful start past xs 11) c.in-ok-no-clash.ensures.cases) c.in-ok-no-clash-2.ensures.cases) c.in-err-no-clash-3.ensures.cases);
+      exit (λ _. Passes lawful start past xs 11 16) (FaultFrom lawful start past xs 11) c.from-residual-in_err-no_clash-3.result c.in_err-no_clash-3.field-0.0 c.from-residual-in_err-no_clash-3.ensures.1
+      (fault_path lawful start past xs zs own c.in_err-no_clash-3.field-0.0 (passes_nop lawful start past xs zs own (passes_unit lawful start past xs zs own (passes_none lawful start past xs 11) c.in_ok-no_clash.ensures.cases) c.in_ok-no_clash-2.ensures.cases) c.in_err-no_clash-3.ensures.cases);
 }
 
-pub returns-in-err-no-clash-4 : goal.returns-in-err-no-clash-4
-returns-in-err-no-clash-4 c = record {
+pub returns-in_err-no_clash-4 : goal.returns-in_err-no_clash-4
+returns-in_err-no_clash-4 c = record {
   cases = λ lawful start past xs own.
       let zs = c.args.own.now in
-      exit (λ _. Passes lawful start past xs 11 16) (FaultFrom lawful start past xs 11) c.from-residual-in-err-no-clash-4.result c.in-err-no-clash-4.field-0.0 c.from-residual-in-err-no-clash-4.ensures.1
-      (fault_alignment lawful start past xs zs own c.in-err-no-clash-4.field-0.0 (passes_path lawful start past xs zs own (passes_nop lawful start past xs zs own (passes_unit lawful start past xs zs own (passes_none lawful start past xs 11) c.in-ok-no-clash.ensures.cases) c.in-ok-no-clash-2.ensures.cases) c.in-ok-no-clash-3.ensures.cases) c.in-err-no-clash-4.ensures.cases);
+      exit (λ _. Passes lawful start past xs 11 16) (FaultFrom lawful start past xs 11) c.from-residual-in_err-no_clash-4.result c.in_err-no_clash-4.field-0.0 c.from-residual-in_err-no_clash-4.ensures.1
+      (fault_alignment lawful start past xs zs own c.in_err-no_clash-4.field-0.0 (passes_path lawful start past xs zs own (passes_nop lawful start past xs zs own (passes_unit lawful start past xs zs own (passes_none lawful start past xs 11) c.in_ok-no_clash.ensures.cases) c.in_ok-no_clash-2.ensures.cases) c.in_ok-no_clash-3.ensures.cases) c.in_err-no_clash-4.ensures.cases);
 }
 
 pub returns : goal.returns
 returns c = record {
   cases = λ lawful start past xs own.
       let zs = c.args.own.now in
-      let before = passes_alignment lawful start past xs zs own (passes_path lawful start past xs zs own (passes_nop lawful start past xs zs own (passes_unit lawful start past xs zs own (passes_none lawful start past xs 11) c.in-ok-no-clash.ensures.cases) c.in-ok-no-clash-2.ensures.cases) c.in-ok-no-clash-3.ensures.cases) c.in-ok-no-clash-4.ensures.cases in
-      MatchResult-weaker c.no-clash-5.result c.no-clash-5.ensures.cases (λ _ f. passes_operand lawful start past xs zs own before f) (λ f p. fault_operand lawful start past xs zs own f before p);
+      let before = passes_alignment lawful start past xs zs own (passes_path lawful start past xs zs own (passes_nop lawful start past xs zs own (passes_unit lawful start past xs zs own (passes_none lawful start past xs 11) c.in_ok-no_clash.ensures.cases) c.in_ok-no_clash-2.ensures.cases) c.in_ok-no_clash-3.ensures.cases) c.in_ok-no_clash-4.ensures.cases in
+      MatchResult-weaker c.no_clash-5.result c.no_clash-5.ensures.cases (λ _ f. passes_operand lawful start past xs zs own before f) (λ f p. fault_operand lawful start past xs zs own f before p);
 }

@@ -27,19 +27,19 @@ module _ (lawful start : Valuations) (past : List (List Instruction)) (xs : List
       count_fault lawful start past xs ReadExcess ReadCount (inr refl) (λ ys e. inr (inr (refl, e))) (breaks_reads lawful start past) (reads_whole xs _ p.slot.broken) 16 f (omega arith)
       (passes_cross cross) (subst (λ (n : ℕ). SlotFault ReadExcess xs n ReadCount f) many p)
 
-pub returns-in-err-no-excess : goal.returns-in-err-no-excess
-returns-in-err-no-excess c = record {
+pub returns-in_err-no_excess : goal.returns-in_err-no_excess
+returns-in_err-no_excess c = record {
   cases = λ lawful start past many.
       let xs = c.args.packet.now in
-      exit (λ _. Passes lawful start past xs 16 18) (FaultFrom lawful start past xs 16) c.from-residual.result c.in-err-no-excess.field-0.0 c.from-residual.ensures.1
-      (fault_cross lawful start past xs c.args.packets many c.in-err-no-excess.field-0.0 c.in-err-no-excess.ensures.cases);
+      exit (λ _. Passes lawful start past xs 16 18) (FaultFrom lawful start past xs 16) c.from-residual.result c.in_err-no_excess.field-0.0 c.from-residual.ensures.1
+      (fault_cross lawful start past xs c.args.packets many c.in_err-no_excess.field-0.0 c.in_err-no_excess.ensures.cases);
 }
 
 pub returns : goal.returns
 returns c = record {
   cases = λ lawful start past many.
       let xs = c.args.packet.now in
-      let cross = c.in-ok-no-excess.ensures.cases in
-      MatchResult-weaker c.no-excess-2.result c.no-excess-2.ensures.cases (λ _ free. passes_reads lawful start past xs c.args.packets many cross free)
+      let cross = c.in_ok-no_excess.ensures.cases in
+      MatchResult-weaker c.no_excess-2.result c.no_excess-2.ensures.cases (λ _ free. passes_reads lawful start past xs c.args.packets many cross free)
       (λ f p. fault_reads lawful start past xs c.args.packets many cross f p);
 }

@@ -48,19 +48,19 @@ module _ (lawful start : Valuations) (past : List (List Instruction)) (xs : List
   fault_write before fault p =
       fault_of lawful start past xs zs f lined DoubleWrite (λ e. omega arith, λ e. omega arith) Writes (write_says lawful start past xs zs f lined joined) 18 fault (omega arith) before p
 
-pub returns-in-err-no-clash : goal.returns-in-err-no-clash
-returns-in-err-no-clash c = record {
+pub returns-in_err-no_clash : goal.returns-in_err-no_clash
+returns-in_err-no_clash c = record {
   cases = λ lawful start past xs many joined.
       let zs = c.args.entries.now in
-      exit (λ _. Passes lawful start past xs 18 20) (FaultFrom lawful start past xs 18) c.from-residual.result c.in-err-no-clash.field-0.0 c.from-residual.ensures.1
-      (fault_port lawful start past xs zs c.args.from many joined c.in-err-no-clash.field-0.0 c.in-err-no-clash.ensures.cases);
+      exit (λ _. Passes lawful start past xs 18 20) (FaultFrom lawful start past xs 18) c.from-residual.result c.in_err-no_clash.field-0.0 c.from-residual.ensures.1
+      (fault_port lawful start past xs zs c.args.from many joined c.in_err-no_clash.field-0.0 c.in_err-no_clash.ensures.cases);
 }
 
 pub returns : goal.returns
 returns c = record {
   cases = λ lawful start past xs many joined.
       let zs = c.args.entries.now in
-      let before = passes_port lawful start past xs zs c.args.from many joined c.in-ok-no-clash.ensures.cases in
-      MatchResult-weaker c.no-clash-2.result c.no-clash-2.ensures.cases (λ _ free. passes_write lawful start past xs zs c.args.from many joined before free)
+      let before = passes_port lawful start past xs zs c.args.from many joined c.in_ok-no_clash.ensures.cases in
+      MatchResult-weaker c.no_clash-2.result c.no_clash-2.ensures.cases (λ _ free. passes_write lawful start past xs zs c.args.from many joined before free)
       (λ f p. fault_write lawful start past xs zs c.args.from many joined before f p);
 }

@@ -3,21 +3,21 @@ use Rattle.claims.specs.Claims.{FreeFrom, FirstClash}
 use Rattle.verdict.proofs.Claiming.{free_of, first_of, inside_of}
 use Rattle.verdict.proofs.search.no_clash.Goals as goal
 
-pub place-at-requires : goal.place-at-requires
-place-at-requires g c = record {
+pub place_at-requires : goal.place_at-requires
+place_at-requires g c = record {
   inside = (inside_of g.C.EntryClaim.claimed g.C.Claim.clash c.args.entries.now c.args.claims.now c.args.from c.in-Some.clash.earlier c.in-Some.clash.later c.requires.theirs c.in-Some.ensures.cases).1;
 }
 
-pub place-at-requires-in-Some : goal.place-at-requires-in-Some
-place-at-requires-in-Some g c = record {
+pub place_at-requires-in-Some : goal.place_at-requires-in-Some
+place_at-requires-in-Some g c = record {
   inside = (inside_of g.C.EntryClaim.claimed g.C.Claim.clash c.args.entries.now c.args.claims.now c.args.from c.in-Some.clash.earlier c.in-Some.clash.later c.requires.theirs c.in-Some.ensures.cases).0;
 }
 
 pub returns-in-Some : goal.returns-in-Some
 returns-in-Some g c =
     let p = c.in-Some.clash in
-    let (later, at-later, is_later) = c.place-at.ensures.value in
-    let (earlier, at-earlier, is-earlier) = c.place-at-in-Some.ensures.value in
+    let (later, at-later, is_later) = c.place_at.ensures.value in
+    let (earlier, at-earlier, is-earlier) = c.place_at-in-Some.ensures.value in
     record {
       cases = record {
         reason = refl;

@@ -62,7 +62,7 @@ returns g c =
     let k : Rules = rules_of (g.R.Repertoire.map s.repertoire) s in
     let on : more r ≡ true = search rules in
     let lt = c.if-gathered-ge7.false in
-    let slice = ap length c.as-slice-gathered.ensures.entries in
+    let slice = ap length c.as_slice-gathered.ensures.entries in
     record {
       serves = λ b stands going full.
           let xs : List Instruction = with k b r in

@@ -16,7 +16,7 @@ returns-in-Ok g c =
     record {
       verdict = λ b xs complete. (
         subst (λ (l : List Instruction). AcceptedAs h.lawful h.lawful b.accepted l c.in-Ok.accepted) complete.gathered (c.in-Ok.ensures.verdict h.lawful b.accepted complete.history),
-        let added = c.saturating-add-self.ensures in
+        let added = c.saturating_add-self.ensures in
             let one = as_count c.in-Ok.accepted.stall in
             let small = one_at_most c.in-Ok.accepted.stall in
             let st = complete.stalls in

@@ -10,9 +10,9 @@ returns c =
     let i = c.args.instruction in
     let e = c.writes.ensures.places in
     let whole = three (option_map (result_write i.row.class)) (result_width i.row.class i.row.dst) i.dst (cond i.update (option_map base_write i.s2) None) in
-    let a = c.landing-of.ensures.value in
-    let b = c.landing-of-2.ensures.value in
-    let d = c.landing-of-3.ensures.value in
+    let a = c.landing_of.ensures.value in
+    let b = c.landing_of-2.ensures.value in
+    let d = c.landing_of-3.ensures.value in
     let g = map (option_map (landing c.args.issue)) in
-    let read : c.landing-of.result ∷ c.landing-of-2.result ∷ c.landing-of-3.result ∷ [] ≡ g (front c.writes.result) = cc in
+    let read : c.landing_of.result ∷ c.landing_of-2.result ∷ c.landing_of-3.result ∷ [] ≡ g (front c.writes.result) = cc in
     record { landings = read ∙ ap (λ l. g (front l)) e ∙ ap g whole; performed = refl }

@@ -16,10 +16,10 @@ returns c =
     let others = c.args.other.now.landings in
     let shared = c.if-not-meets.ensures.decides.0 refl in
     let At : ℕ → Type 0 = λ i. (j : ℕ) × (l : Landing) × (j < 3) × (get_or mine i None ≡ Some l) × (get_or others j None ≡ Some l) in (
-      λ t. let (j, l, hj, p, q) = c.lands-among-3.ensures.decides.0 t in ((2, j, l, omega arith, hj, p, q), shared),
+      λ t. let (j, l, hj, p, q) = c.lands_among-3.ensures.decides.0 t in ((2, j, l, omega arith, hj, p, q), shared),
       λ d. let (i, j, l, hi, hj, p, q) = d.0 in
-          c.lands-among-3.ensures.decides.1
+          c.lands_among-3.ensures.decides.1
           (third At i hi (j, l, hj, p, q)
-          (λ a. both_ways _ c.if-lands-among.false (c.lands-among.ensures.decides.1 a))
-          (λ a. both_ways _ c.if-lands-among-2.false (c.lands-among-2.ensures.decides.1 a))),
+          (λ a. both_ways _ c.if-lands_among.false (c.lands_among.ensures.decides.1 a))
+          (λ a. both_ways _ c.if-lands_among-2.false (c.lands_among-2.ensures.decides.1 a))),
     )

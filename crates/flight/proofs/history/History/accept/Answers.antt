@@ -28,16 +28,16 @@ returns c = record {
         let xs : List Instruction = listed p in
         let es : List InFlight = listed c.joined-entries.result in
         let m = c.changes-freed.result in
-        let next : ℕ = h.cycle + c.packet-length.result in
+        let next : ℕ = h.cycle + c.packet_length.result in
         let joined = c.joined-entries.ensures.joined start past stands in
-        let lasts : c.packet-length.result ≡ packet_length xs = c.packet-length.ensures.value ∙ ap packet_length c.as-slice.ensures.entries in
+        let lasts : c.packet_length.result ≡ packet_length xs = c.packet_length.ensures.value ∙ ap packet_length c.as_slice.ensures.entries in
         let grown = cycles_push past xs in
         let then : next ≡ cycles (past ++ xs ∷ []) = let t = stands.time in omega arith in
         let narrow : All (λ q. length q ≤ 8) (past ++ xs ∷ []) = All-push (λ q. length q ≤ 8) past xs stands.narrow (listed_few 8 p.count p.entries p.few) in
         let freed : (i : ℕ) → i < 6 → Iff (MayChange m i) (SomeFrees h.cycle next i es) =
-        subst (λ (l : List InFlight). (i : ℕ) → i < 6 → Iff (MayChange m i) (SomeFrees h.cycle next i l)) c.as-slice-2.ensures.entries c.changes-freed.ensures.members in
+        subst (λ (l : List InFlight). (i : ℕ) → i < 6 → Iff (MayChange m i) (SomeFrees h.cycle next i l)) c.as_slice-2.ensures.entries c.changes-freed.ensures.members in
         let masks : Masks m past xs = masks_of past xs es joined.flying m h.cycle next stands.time then freed in
-        let slice = c.as-slice-3.ensures.entries in
+        let slice = c.as_slice-3.ensures.entries in
         let told : issues (listed c.onward-self.result) ≡ take 40 (kept next (issues es)) = c.onward-self.ensures.issued ∙ ap (λ l. take 40 (kept next (issues l))) slice in
         record {
           many = let e = stands.many in omega (arith, length_push past xs);

@@ -14,8 +14,8 @@ returns c =
     let p = c.args.packet.now in
     let es = listed h.flight in
     let old = listed c.copied-entries.result in
-    let copied = c.copied-entries.ensures.entries ∙ ap (take 48) c.as-slice.ensures.entries in
-    let added = c.add.ensures.issued ∙ ap (λ l. take 48 (issues old ++ slots h.packets h.cycle 0 l)) c.as-slice-2.ensures.entries in
+    let copied = c.copied-entries.ensures.entries ∙ ap (take 48) c.as_slice.ensures.entries in
+    let added = c.add.ensures.issued ∙ ap (λ l. take 48 (issues old ++ slots h.packets h.cycle 0 l)) c.as_slice-2.ensures.entries in
     let fits = joined_fits h.packets h.cycle (listed p) es old (listed c.add.new.entries) (listed_few 40 h.flight.count h.flight.entries h.flight.few) (listed_few 8 p.count p.entries p.few) copied added in
     record {
       issued = fits.0;

@@ -9,7 +9,7 @@ use Rattle.hazards.proofs.counts.RegisterReadsPacketFault.broken.Goals as goal
 pub loop-k-preserved : goal.loop-k-preserved
 loop-k-preserved c =
     free_more c.args.packet.now c.loop-k.k _ c.loop-k-test.true c.loop-k.invariant
-    (λ j hj x. both_ways c.over-in.result c.if-over-in.false (c.over-in.ensures.decides.1 (j, hj, x)))
+    (λ j hj x. both_ways c.over_in.result c.if-over_in.false (c.over_in.ensures.decides.1 (j, hj, x)))
 
 pub returns : goal.returns
 returns c = (

@@ -12,15 +12,15 @@ Readable e = is_some (row_of e) ≡ true
 abbrev Below : List ℕ → List ℕ → Type 0
 Below d e = operation d < operation e
 
-pub returns-then-not-all-readable : goal.returns-then-not-all-readable
-returns-then-not-all-readable c =
+pub returns-then-not-all_readable : goal.returns-then-not-all_readable
+returns-then-not-all_readable c =
     let same = c.in-Some.ensures.cases.1 in
-    record { cases = inr (refl, (omega arith, omega arith), λ good. both_ways false refl (c.if-not-all-readable.ensures.value.1 (each_out _ _ same Readable good.readable))); map = tt }
+    record { cases = inr (refl, (omega arith, omega arith), λ good. both_ways false refl (c.if-not-all_readable.ensures.value.1 (each_out _ _ same Readable good.readable))); map = tt }
 
-pub returns-then-not-all-rising : goal.returns-then-not-all-rising
-returns-then-not-all-rising c =
+pub returns-then-not-all_rising : goal.returns-then-not-all_rising
+returns-then-not-all_rising c =
     let same = c.in-Some.ensures.cases.1 in
-    record { cases = inr (refl, (omega arith, omega arith), λ good. both_ways false refl (c.if-not-all-rising.ensures.value.1 (pairs_out _ _ same Below good.rising))); map = tt }
+    record { cases = inr (refl, (omega arith, omega arith), λ good. both_ways false refl (c.if-not-all_rising.ensures.value.1 (pairs_out _ _ same Below good.rising))); map = tt }
 
 pub returns : goal.returns
 returns c =
