@@ -23,7 +23,7 @@ pub struct Clash {
 // The first claim before place `later` that clashes with the one there.
 fn first_with<C: Claim>(claims: &[C], later: usize) -> Option<usize>
     requires inside { later < length claims.now }
-    ensures cases { MatchOption result (FreeBefore clash claims.now later later) (λ a. (a < later) × ClashAt clash claims.now a later × FreeBefore clash claims.now later a) }
+    ensures cases { MatchOption result (FreeBefore C.clash claims.now later later) (λ a. (a < later) × ClashAt C.clash claims.now a later × FreeBefore C.clash claims.now later a) }
 {
     for a in 0..later {
         if claims[a].clashes(&claims[later]) {
@@ -35,7 +35,7 @@ fn first_with<C: Claim>(claims: &[C], later: usize) -> Option<usize>
 
 // The least place from `from` on whose claim clashes with an earlier one, and the earliest that it clashes with.
 pub fn first_clash<C: Claim>(claims: &[C], from: usize) -> Option<Clash>
-    ensures cases { MatchOption result (FreeFrom clash claims.now from (length claims.now)) (λ p. FirstClash clash claims.now from p.earlier p.later) }
+    ensures cases { MatchOption result (FreeFrom C.clash claims.now from (length claims.now)) (λ p. FirstClash C.clash claims.now from p.earlier p.later) }
 {
     for later in from..claims.len() {
         if let Some(earlier) = first_with(claims, later) {

@@ -62,7 +62,7 @@ impl Counted for Register {
 // Whether a packet has more of it than a limit.
 fn over<K: Counted>(key: &K, packet: &[Instruction], limit: u8) -> bool
     requires small { limit < 255 }
-    ensures decides { Decides result (limit < sum_by (amount key.now) packet.now) }
+    ensures decides { Decides result (limit < sum_by (K.amount key.now) packet.now) }
 {
     let mut sum = 0u8;
     for instruction in packet {

@@ -18,7 +18,7 @@ pub trait PacketFault {
 
 // The first slot up to which the packet has the fault.
 pub fn first_slot<F: PacketFault>(kind: &F, packet: &[Instruction]) -> Option<usize>
-    ensures cases { MatchOption result (fault kind.now packet.now → ⊥) (FirstSlot (fault kind.now) packet.now) }
+    ensures cases { MatchOption result (F.fault kind.now packet.now → ⊥) (FirstSlot (F.fault kind.now) packet.now) }
 {
     for slot in 0..packet.len() {
         if kind.broken(&packet[0..slot + 1]) {
