@@ -1,5 +1,5 @@
 -- The row of an admitted record is the one that it was held against. Assumes nothing.
-use Rattle.std.proofs.Common.{◌≡◌, true, IfOk, Some, Ok, Err, Option, Result, sym, ap, ◌∙◌, subst}
+use Rattle.std.proofs.Common.{◌≡◌, true, IfOk, Some, Ok, Err, Result, ap, ◌∙◌}
 use Rattle.isa.specs.declared.record.Record.{Record}
 use Rattle.isa.specs.declared.refusal.Refusal.{Refusal}
 use Rattle.isa.specs.declared.row.Row.{Row}

@@ -1,6 +1,6 @@
 -- What an instruction reads and writes.
 -- Each mention of a register is one read, and a pair counts as both its registers.
-use Rattle.std.specs.Prelude.{ℕ, Bool, true, false, cond, List, [], ◌∷◌, ◌++◌, map, Some, None, Option}
+use Rattle.std.specs.Prelude.{Bool, true, false, cond, List, [], ◌∷◌, ◌++◌, map, Some, None, Option}
 use Rattle.std.specs.Option.{option_map}
 use Rattle.isa.specs.declared.class.Class.{Class}
 use Rattle.isa.specs.declared.class.Class.TheVariants.{Nop, SingleCycle, TwoCycle, FourCycle, Load, Store}

@@ -1,5 +1,5 @@
 -- When two instructions of one packet clash, kind by kind.
-use Rattle.std.specs.Prelude.{◌≡◌, ℕ, ◌<◌, Bool, true, false, ◌⊎◌, Some, ◌≢◌}
+use Rattle.std.specs.Prelude.{◌≡◌, ◌<◌, true, ◌⊎◌, Some, ◌≢◌}
 use Rattle.isa.specs.declared.unit.FunctionalUnit.{FunctionalUnit}
 use Rattle.isa.specs.Classes.{accesses}
 use Rattle.admission.specs.Refusals.{is_nop}

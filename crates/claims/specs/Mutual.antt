@@ -1,5 +1,4 @@
 -- The proofs that each kind of clash is mutual. Ghost members cite them, so they stand here; a reader need not.
-use Rattle.std.specs.Prelude.{◌≡◌}
 use Rattle.std.proofs.Common.{sym, inl, inr, ⊎_elim}
 use Rattle.admission.specs.declared.instruction.Instruction.{Instruction}
 use Rattle.claims.specs.declared.port.PortClaim.{PortClaim}

@@ -1,5 +1,5 @@
 -- A sum that stops at 255, and the mentions of a register by places. Assumes nothing.
-use Rattle.std.proofs.Common.{◌≡◌, ℕ, ◌+◌, ◌<◌, ◌≤◌, min, Bool, true, false, cond, eqb, ltb, List, [], ◌∷◌, ◌++◌, length, get_or, take, Some, None, Decides, sum_by, count_by, Option, sym, refl, ap, ◌∙◌, ap₂, arith, take_all, ltb-true, lt-ltb}
+use Rattle.std.proofs.Common.{◌≡◌, ℕ, ◌+◌, ◌<◌, ◌≤◌, min, cond, eqb, ltb, List, [], ◌∷◌, ◌++◌, length, get_or, take, Some, None, Decides, sum_by, count_by, Option, sym, refl, ap, ◌∙◌, ap₂, arith, take_all, ltb-true, lt-ltb}
 use Rattle.std.proofs.lemmas.List.Sums.{sum_by_more, sum_by-cons}
 use Rattle.isa.specs.declared.register.Register.{Register}
 use Rattle.admission.specs.declared.instruction.Instruction.{Instruction}

@@ -1,5 +1,5 @@
 -- What a packet may have only so many of: uses of a cross path, and reads of a register.
-use Rattle.std.specs.Prelude.{ℕ, ◌<◌, Bool, true, false, cond, ◌&&◌, List, Some, None, sum_by, count_by, Option, ◌==◌, nat_eq}
+use Rattle.std.specs.Prelude.{ℕ, ◌<◌, Bool, false, cond, ◌&&◌, List, Some, None, sum_by, count_by, Option, ◌==◌, nat_eq}
 use Rattle.isa.specs.declared.register.Register.{Register}
 use Rattle.isa.specs.declared.unit.FunctionalUnit.{FunctionalUnit}
 use Rattle.isa.specs.declared.unit.Side.{Side}

@@ -1,5 +1,5 @@
 -- A list of eight and more is its first eight, and the rest. Assumes nothing.
-use Rattle.std.proofs.Common.{◌≡◌, ℕ, ◌-◌, ◌≤◌, List, [], ◌∷◌, ◌++◌, length, get_or, take, drop, sym, refl, subst, arith, length-drop, take_all, drop-cons}
+use Rattle.std.proofs.Common.{◌≡◌, ℕ, ◌-◌, ◌≤◌, List, ◌++◌, length, get_or, take, drop, sym, refl, subst, arith, length-drop, take_all, drop-cons}
 use Rattle.isa.specs.declared.record.Record.{Record}
 use Rattle.isa.specs.Records.{bytes}
 

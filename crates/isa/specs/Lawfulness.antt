@@ -1,5 +1,5 @@
 -- The rule of rows over the whole built-in table. A ghost member cites the proof, so it stands here; a reader need not.
-use Rattle.std.specs.Prelude.{◌≡◌, ℕ, zero, suc, Bool, true, false, ◌&&◌, List, [], ◌∷◌, Some, None, Option, refl}
+use Rattle.std.specs.Prelude.{◌≡◌, ℕ, zero, suc, Bool, true, false, ◌&&◌, List, [], ◌∷◌, Some, refl}
 use Rattle.std.proofs.Common.{subst, arith}
 use Rattle.isa.specs.Rows.{keeps_rule, Lawful}
 use Rattle.isa.specs.BuiltIn.{at, built_in, built_in_map}

@@ -1,5 +1,5 @@
 -- Rows, the rule that every row keeps, and maps from operation numbers to rows.
-use Rattle.std.specs.Prelude.{◌≡◌, ℕ, Bool, true, false, not, ◌&&◌, ◌||◌, Some, None, Option}
+use Rattle.std.specs.Prelude.{◌≡◌, ℕ, Bool, true, not, ◌&&◌, Some, Option}
 use Rattle.isa.specs.declared.class.Class.{Class}
 use Rattle.isa.specs.declared.class.Class.TheVariants.{Nop, SingleCycle, TwoCycle, FourCycle, Load, Store}
 use Rattle.isa.specs.declared.row.Row.{Row}

@@ -1,5 +1,5 @@
 -- Functional units, and the sets of them that rows permit.
-use Rattle.std.specs.Prelude.{ℕ, ◌+◌, ◌-◌, ◌/◌, ◌%◌, Bool, true, false, cond, ◌&&◌, ◌||◌, Some, None, Option, ◌==◌, nat_le, nat_lt}
+use Rattle.std.specs.Prelude.{ℕ, ◌+◌, ◌-◌, ◌%◌, Bool, true, false, cond, ◌&&◌, ◌||◌, Some, None, Option, ◌==◌, nat_le, nat_lt}
 use Rattle.isa.specs.declared.unit.Side.{Side}
 use Rattle.isa.specs.declared.unit.Side.TheVariants.{A, B}
 use Rattle.isa.specs.declared.unit.UnitKind.{UnitKind}

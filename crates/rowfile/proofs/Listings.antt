@@ -1,8 +1,8 @@
 -- A lookup among entries whose numbers rise finds exactly the rows that are listed. Assumes nothing.
-use Rattle.std.proofs.Common.{◌≡◌, ℕ, zero, suc, ◌+◌, ◌<◌, ◌≤◌, Bool, true, false, cond, eqb, ltb, List, [], ◌∷◌, length, get_or, Some, None, Option, sym, refl, ap, ◌∙◌, subst, ap₂, suc-le-suc, zero-le, le_of_suc-le-suc, not-suc-le-zero, arith, le-ltb, lt-ltb, eq-eqb, eqb-true}
+use Rattle.std.proofs.Common.{◌≡◌, ℕ, zero, suc, ◌<◌, Bool, true, false, eqb, ltb, List, [], ◌∷◌, length, get_or, Some, None, sym, refl, ap, ◌∙◌, subst, ap₂, suc-le-suc, zero-le, le_of_suc-le-suc, not-suc-le-zero, arith, le-ltb, lt-ltb, eq-eqb, eqb-true}
 use Rattle.isa.specs.declared.row.Row.{Row}
 use Rattle.rowfile.specs.Entries.{operation, row_of}
-use Rattle.rowfile.specs.Files.{row_count, entry, entries, entries_map, Lists, MapOfFile}
+use Rattle.rowfile.specs.Files.{row_count, entries, entries_map, Lists, MapOfFile}
 use Rattle.rowfile.proofs.Lookups.{answer}
 use Rattle.rowfile.proofs.Layouts.{length_entries, entry_at}
 

@@ -1,5 +1,5 @@
 -- One entry of a row file: eight bytes, an operation number and its row.
-use Rattle.std.specs.Prelude.{ℕ, Bool, true, false, cond, ◌&&◌, List, Some, None, Option, ◌==◌, nat_le, slice_index}
+use Rattle.std.specs.Prelude.{ℕ, Bool, cond, ◌&&◌, List, Some, None, Option, ◌==◌, nat_le, slice_index}
 use Rattle.isa.specs.declared.row.Row.{Row}
 use Rattle.isa.specs.Classes.{class_of}
 use Rattle.isa.specs.Widths.{width_of}

@@ -4,7 +4,6 @@ use Rattle.std.proofs.Common.{◌≡◌, ℕ, ◌+◌, ◌<◌, ◌≤◌, cond,
 use Rattle.std.proofs.lemmas.List.{get_or_push, get_or_append_left}
 use Rattle.std.proofs.lemmas.Bool.{cases_lt, cases_eq, lt-ltb, le-ltb, cond-true, cond-false}
 use Rattle.isa.specs.declared.condition.Condition.{Condition}
-use Rattle.isa.specs.declared.condition.Condition.TheVariants.{Always}
 use Rattle.isa.specs.Bits.{bit}
 use Rattle.runs.specs.declared.valuations.Valuations.{Valuations}
 use Rattle.runs.specs.declared.valuations.Changes.{Changes}

@@ -1,7 +1,7 @@
 -- Sets of valuations as numbers: what the operations do to each bit.
 -- Assumes nothing.
-use Rattle.std.proofs.Common.{◌≡◌, ℕ, zero, suc, ◌+◌, ◌-◌, ◌*◌, ◌/◌, ◌%◌, ◌^◌, ◌<◌, ◌≤◌, min, max, Bool, true, false, cond, T, eqb, leb, ◌⊎◌, List, [], ◌∷◌, get_or, sym, refl, ap, ◌∙◌, subst, ap₂, inl, inr, ⊎_elim, mod-eq_of_lt, mul_assoc, pow-suc, arith, eqb→eq, leb→le, pow_mono, pow-add, shr-shr}
-use native.Mathlib.Nat.{mul-mod_left, div-eq_of_lt}
+use Rattle.std.proofs.Common.{◌≡◌, ℕ, zero, suc, ◌+◌, ◌-◌, ◌*◌, ◌/◌, ◌%◌, ◌^◌, ◌<◌, ◌≤◌, min, max, eqb, ◌⊎◌, List, [], ◌∷◌, get_or, sym, ap, ◌∙◌, ap₂, inl, inr, ⊎_elim, pow-suc, arith, eqb→eq, pow_mono, shr-shr}
+use native.Mathlib.Nat.{div-eq_of_lt}
 use lib.Arith.{digits_mod}
 use lib.Bits.{bit_and, bit_or, bit_xor, and_step, or_step, and_shr, or_shr}
 use lib.Pow.{shl-shr, field, mod-mod-pow}

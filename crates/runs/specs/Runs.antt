@@ -1,6 +1,6 @@
 -- Runs through the packets from the first to the last one judged.
 -- What may change between two packets, and where a run may begin, are parameters.
-use Rattle.std.specs.Prelude.{◌≡◌, ℕ, ◌+◌, ◌<◌, ◌≤◌, List, [], ◌∷◌, ◌≢◌, slice_index_or}
+use Rattle.std.specs.Prelude.{◌≡◌, ℕ, ◌+◌, ◌<◌, ◌≤◌, List, ◌≢◌, slice_index_or}
 use Rattle.isa.specs.declared.condition.Condition.{Condition}
 use Rattle.isa.specs.declared.condition.Condition.TheVariants.{Always}
 use Rattle.isa.specs.Bits.{bit}

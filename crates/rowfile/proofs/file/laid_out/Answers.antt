@@ -1,4 +1,4 @@
-use Rattle.std.proofs.Common.{◌≡◌, ◌-◌, ◌/◌, length, take, drop, sym, ap, ◌∙◌, ap₂, arith, length-drop, length-take, take_all, true-eqb}
+use Rattle.std.proofs.Common.{◌≡◌, ◌-◌, ◌/◌, length, take, drop, ap, ◌∙◌, ap₂, arith, length-drop, take_all, true-eqb}
 use Rattle.std.specs.Simd.{first_chunks}
 use Rattle.rowfile.specs.Files.{row_count}
 use Rattle.rowfile.proofs.file.laid_out.Goals as goal

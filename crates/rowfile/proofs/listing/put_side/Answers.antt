@@ -1,4 +1,4 @@
-use Rattle.std.proofs.Common.{length, arith, length-append}
+use Rattle.std.proofs.Common.{arith, length-append}
 use Rattle.rowfile.specs.Listings.{side_text}
 use Rattle.rowfile.proofs.Adding.{adds_then}
 use Rattle.rowfile.proofs.listing.put_side.Goals as goal

@@ -1,4 +1,4 @@
-use Rattle.std.proofs.Common.{◌≡◌, ℕ, ◌≤◌, List, [], length, sym, ap, ◌∙◌, subst, arith}
+use Rattle.std.proofs.Common.{◌≤◌, [], length, ◌∙◌, subst, arith}
 use Rattle.rowfile.specs.Listings.{unit_text, unit_name}
 use Rattle.rowfile.proofs.Adding.{adds_none, adds_is, first, second, length_unit}
 use Rattle.rowfile.proofs.listing.put_unit.Goals as goal

@@ -1,4 +1,4 @@
-use Rattle.std.proofs.Common.{◌≡◌, ◌≤◌, ◌++◌, length, codes, sym, subst, arith, lit≤, length-append}
+use Rattle.std.proofs.Common.{◌≤◌, ◌++◌, length, codes, subst, arith, lit≤, length-append}
 use Rattle.isa.specs.declared.unit.Side.TheVariants.{A, B}
 use Rattle.rowfile.specs.Listings.{side_text, units_text}
 use Rattle.rowfile.proofs.Adding.{adds_then, adds_is, first, second}

@@ -1,6 +1,6 @@
-use Rattle.std.proofs.Common.{◌≡◌, cond, [], ◌∷◌, map, None, sym, refl, ap, ◌∙◌}
+use Rattle.std.proofs.Common.{◌≡◌, cond, [], ◌∷◌, map, None, refl, ap, ◌∙◌}
 use Rattle.std.specs.Option.{option_map}
-use Rattle.admission.specs.Operands.{result_write, base_write, result_width, write_places}
+use Rattle.admission.specs.Operands.{result_write, base_write, result_width}
 use Rattle.claims.specs.Landings.{landing}
 use Rattle.claims.proofs.Places.{front, three}
 use Rattle.claims.proofs.write.WriteClaim.new.Goals as goal

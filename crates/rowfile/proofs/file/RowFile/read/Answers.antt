@@ -1,7 +1,7 @@
-use Rattle.std.proofs.Common.{◌≡◌, ℕ, ◌<◌, true, false, List, is_some, sym, refl, subst, inl, inr, add-one, arith, rules}
+use Rattle.std.proofs.Common.{◌≡◌, ℕ, ◌<◌, true, false, List, is_some, sym, refl, subst, inr, add-one, arith}
 use borrow.Author.Tests.{both_ways}
 use Rattle.rowfile.specs.Entries.{operation, row_of}
-use Rattle.rowfile.specs.Files.{entries_map, WellFormed, MapOfFile}
+use Rattle.rowfile.specs.Files.{entries_map, MapOfFile}
 use Rattle.rowfile.proofs.Layouts.{each_in, each_out, pairs_in, pairs_out}
 use Rattle.rowfile.proofs.Listings.{Rising, map_of_file}
 use Rattle.rowfile.proofs.file.RowFile.read.Goals as goal

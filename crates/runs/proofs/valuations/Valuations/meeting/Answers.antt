@@ -1,4 +1,4 @@
-use Rattle.std.proofs.Common.{◌≡◌, ℕ, ◌-◌, ◌^◌, ◌<◌, sym, refl, ap, ◌∙◌, subst, arith, lit<}
+use Rattle.std.proofs.Common.{◌≡◌, ℕ, ◌-◌, ◌^◌, ◌<◌, sym, ap, ◌∙◌, subst, arith, lit<}
 use Rattle.isa.specs.declared.condition.Condition.{Condition}
 use Rattle.isa.specs.declared.condition.Condition.TheVariants.{Always, Nonzero, Zero}
 use Rattle.isa.specs.declared.condition.ConditionRegister.{ConditionRegister}

@@ -1,4 +1,4 @@
-use Rattle.std.proofs.Common.{◌≡◌, ℕ, ◌<◌, arith}
+use Rattle.std.proofs.Common.{ℕ, ◌<◌, arith}
 use Rattle.runs.specs.Valuations.{Iff, Has, After}
 use Rattle.runs.proofs.Sets.{bit-bit_and}
 use Rattle.runs.proofs.Carrying.{carries_push}
