@@ -1,6 +1,6 @@
 -- One call more of a list of calls. Assumes nothing.
 use Rattle.std.proofs.Common.{◌≡◌, ℕ, ◌+◌, ◌<◌, ◌≤◌, List, [], ◌∷◌, ◌++◌, length, get_or, take, Option, Result, sym, refl, ap, ◌∙◌, subst, ap₂, arith}
-use Rattle.std.proofs.lemmas.List.{append_assoc, append_nil, take_more}
+use Rattle.std.proofs.lemmas.List.{append_assoc, append-nil, take_more}
 use Rattle.isa.specs.declared.row.Row.{Row}
 use Rattle.constraints.specs.declared.fault.Fault.{Fault}
 use Rattle.book.specs.declared.calls.Call.{Call}
@@ -20,7 +20,7 @@ says_push k b (d ∷ cs) [] c v all says = absurd all
 says_push k b (d ∷ cs) (w ∷ vs) c v (first, rest) says = let (more, same) = says_push k (after k b d w) cs vs c v rest says in ((first, more), same)
 
 pub performs_none : {R : Type 0} (k : Rules) (b : Book) (old : List (Result Answer Fault)) (c : Checker R) → Stands c b → Performs k b [] old old c
-performs_none k b old c stands = record { answers = []; added = sym (append_nil old); says = tt; stands = stands }
+performs_none k b old c stands = record { answers = []; added = sym (append-nil old); says = tt; stands = stands }
 
 pub performs_more : {R : Type 0} (k j : Rules) (b : Book) (cs : List Call) (n : ℕ) (d : Call) (old new newer : List (Result Answer Fault)) (c after-c : Checker R) (v : Result Answer Fault) → n < length cs → j ≡ k
     → Performs k b (take n cs) old new c → Serves j c (get_or cs n d) after-c v → newer ≡ new ++ v ∷ [] → Performs k b (take (n + 1) cs) old newer after-c

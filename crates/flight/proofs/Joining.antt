@@ -2,7 +2,7 @@
 use Rattle.std.proofs.Common.{◌≡◌, ℕ, suc, ◌+◌, ◌<◌, ◌≤◌, List, [], ◌∷◌, ◌++◌, map, length, get_or, take, sym, refl, ap, ◌∙◌, subst, ap₂, arith}
 use Rattle.std.specs.List.{AllByRecursion as All}
 use Rattle.std.proofs.lemmas.List.Elements.{filter-append}
-use Rattle.std.proofs.lemmas.List.{length-take, length-take-le, length-append, length-map, take_all, take_more, take-map, map-append, append_assoc, append_nil}
+use Rattle.std.proofs.lemmas.List.{length-take, length-take-le, length-append, length-map, take_all, take_more, take-map, map-append, append_assoc, append-nil}
 use Rattle.admission.specs.declared.instruction.Instruction.{Instruction}
 use Rattle.bounded.proofs.Pushing.{take_push}
 use Rattle.constraints.specs.Schedules.{cycles}
@@ -46,7 +46,7 @@ added_more k c m xs n d old e list after h same pushed inv =
 -- nothing added yet
 pub added_none : (m : ℕ) (list : List InFlight) → length list ≤ m → issues list ≡ take m (issues list ++ [])
 added_none m list h =
-    sym (ap (take m) (append_nil (issues list)) ∙ take_all m (issues list) (let e = length-map list (λ (f : InFlight). f.issued) in omega arith))
+    sym (ap (take m) (append-nil (issues list)) ∙ take_all m (issues list) (let e = length-map list (λ (f : InFlight). f.issued) in omega arith))
 
 -- the flight of a schedule with a packet behind it, as the packet issues
 pub flight_behind : (past : List (List Instruction)) (xs : List Instruction)

@@ -3,7 +3,7 @@ use Rattle.std.proofs.Common.{◌≡◌, ℕ, zero, suc, ◌+◌, ◌*◌, ◌<�
 use Rattle.std.specs.List.{AllByRecursion as All}
 use Rattle.std.proofs.lemmas.List.Elements.{filter-append}
 use Rattle.std.proofs.ByRecursion.{All-append, All-weaker, all_kept_by}
-use Rattle.std.proofs.lemmas.List.{append_assoc, append_nil, length-append}
+use Rattle.std.proofs.lemmas.List.{append_assoc, append-nil, length-append}
 use Rattle.std.proofs.lemmas.List.Sums.{sum_by-cons}
 use Rattle.isa.specs.BuiltIn.{at}
 use Rattle.isa.specs.Classes.{delay}
@@ -102,7 +102,7 @@ pub positions_push : (k c : ℕ) (ps : List (List Instruction)) (p : List Instru
 positions_push k c [] p =
     let e : k + 0 ≡ k = omega arith in
     let d : c + 0 ≡ c = omega arith in
-    append_nil (slots k c 0 p) ∙ sym (ap₂ (λ (m n : ℕ). slots m n 0 p) e d)
+    append-nil (slots k c 0 p) ∙ sym (ap₂ (λ (m n : ℕ). slots m n 0 p) e d)
 positions_push k c (q ∷ ps) p =
     let s = sum_by-cons packet_length q ps in
     let e : k + 1 + length ps ≡ k + suc (length ps) = omega arith in

@@ -3,7 +3,7 @@ use Rattle.std.proofs.Common.{◌≡◌, ℕ, ◌+◌, ◌<◌, ◌≤◌, Bool,
 use Rattle.std.specs.List.{AllByRecursion as All}
 use Rattle.std.proofs.lemmas.List.Elements.{filter-append}
 use Rattle.std.proofs.ByRecursion.{All-take, All-push}
-use Rattle.std.proofs.lemmas.List.{length_push, take_more, map-append, append_nil}
+use Rattle.std.proofs.lemmas.List.{length_push, take_more, map-append, append-nil}
 use Rattle.isa.specs.declared.condition.Condition.{Condition}
 use Rattle.admission.specs.declared.instruction.Instruction.{Instruction}
 use Rattle.runs.specs.declared.valuations.Valuations.{Valuations}
@@ -64,7 +64,7 @@ pub is_left : (c m : ℕ) (es : List InFlight) (n : ℕ) (d : InFlight) (list : 
 is_left c m es n d list h dead inv =
     let x = (get_or es n d).issued in
     let none : kept c (x ∷ []) ≡ [] = ap (λ (b : Bool). cond b (x ∷ []) []) dead in
-    inv ∙ ap (take m) (sym (kept_more c es n d h ∙ ap (λ l. kept c (issues (take n es)) ++ l) none ∙ append_nil (kept c (issues (take n es)))))
+    inv ∙ ap (take m) (sym (kept_more c es n d h ∙ ap (λ l. kept c (issues (take n es)) ++ l) none ∙ append-nil (kept c (issues (take n es)))))
 
 -- what holds of the entries and of one more holds of those that fit
 pub all_added : {X : Type 0} (P : X → Type 0) (m : ℕ) (list after : List X) (e : X) → after ≡ take m (list ++ e ∷ []) → All P list → P e → All P after

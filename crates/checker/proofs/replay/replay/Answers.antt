@@ -11,7 +11,7 @@ use Rattle.checker.proofs.replay.replay.Goals as goal
 
 pub returns-in_err-reserve : goal.returns-in_err-reserve
 returns-in_err-reserve g c =
-    let e = c.from-residual.ensures.0 in
+    let e = c.from_residual.ensures.0 in
     record {
       opening = IfOk-from_err _ _ e;
       answers_as_the_book = MatchResult-from_err _ _ _ e (λ _. c.reserve.ensures.items);

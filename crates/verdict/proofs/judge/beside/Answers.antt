@@ -75,7 +75,7 @@ pub returns-in_err-no_clash : goal.returns-in_err-no_clash
 returns-in_err-no_clash c = record {
   cases = λ lawful start past xs own.
       let zs = c.args.own.now in
-      exit (λ _. Passes lawful start past xs 11 16) (FaultFrom lawful start past xs 11) c.from-residual.result c.in_err-no_clash.field-0.0 c.from-residual.ensures.1
+      exit (λ _. Passes lawful start past xs 11 16) (FaultFrom lawful start past xs 11) c.from_residual.result c.in_err-no_clash.field-0.0 c.from_residual.ensures.1
       (fault_unit lawful start past xs zs own c.in_err-no_clash.field-0.0 (passes_none lawful start past xs 11) c.in_err-no_clash.ensures.cases);
 }
 
@@ -83,7 +83,7 @@ pub returns-in_err-no_clash-2 : goal.returns-in_err-no_clash-2
 returns-in_err-no_clash-2 c = record {
   cases = λ lawful start past xs own.
       let zs = c.args.own.now in
-      exit (λ _. Passes lawful start past xs 11 16) (FaultFrom lawful start past xs 11) c.from-residual-in_err-no_clash-2.result c.in_err-no_clash-2.field-0.0 c.from-residual-in_err-no_clash-2.ensures.1
+      exit (λ _. Passes lawful start past xs 11 16) (FaultFrom lawful start past xs 11) c.from_residual-in_err-no_clash-2.result c.in_err-no_clash-2.field-0.0 c.from_residual-in_err-no_clash-2.ensures.1
       (fault_nop lawful start past xs zs own c.in_err-no_clash-2.field-0.0 (passes_unit lawful start past xs zs own (passes_none lawful start past xs 11) c.in_ok-no_clash.ensures.cases) c.in_err-no_clash-2.ensures.cases);
 }
 
@@ -91,7 +91,7 @@ pub returns-in_err-no_clash-3 : goal.returns-in_err-no_clash-3
 returns-in_err-no_clash-3 c = record {
   cases = λ lawful start past xs own.
       let zs = c.args.own.now in
-      exit (λ _. Passes lawful start past xs 11 16) (FaultFrom lawful start past xs 11) c.from-residual-in_err-no_clash-3.result c.in_err-no_clash-3.field-0.0 c.from-residual-in_err-no_clash-3.ensures.1
+      exit (λ _. Passes lawful start past xs 11 16) (FaultFrom lawful start past xs 11) c.from_residual-in_err-no_clash-3.result c.in_err-no_clash-3.field-0.0 c.from_residual-in_err-no_clash-3.ensures.1
       (fault_path lawful start past xs zs own c.in_err-no_clash-3.field-0.0 (passes_nop lawful start past xs zs own (passes_unit lawful start past xs zs own (passes_none lawful start past xs 11) c.in_ok-no_clash.ensures.cases) c.in_ok-no_clash-2.ensures.cases) c.in_err-no_clash-3.ensures.cases);
 }
 
@@ -99,7 +99,7 @@ pub returns-in_err-no_clash-4 : goal.returns-in_err-no_clash-4
 returns-in_err-no_clash-4 c = record {
   cases = λ lawful start past xs own.
       let zs = c.args.own.now in
-      exit (λ _. Passes lawful start past xs 11 16) (FaultFrom lawful start past xs 11) c.from-residual-in_err-no_clash-4.result c.in_err-no_clash-4.field-0.0 c.from-residual-in_err-no_clash-4.ensures.1
+      exit (λ _. Passes lawful start past xs 11 16) (FaultFrom lawful start past xs 11) c.from_residual-in_err-no_clash-4.result c.in_err-no_clash-4.field-0.0 c.from_residual-in_err-no_clash-4.ensures.1
       (fault_alignment lawful start past xs zs own c.in_err-no_clash-4.field-0.0 (passes_path lawful start past xs zs own (passes_nop lawful start past xs zs own (passes_unit lawful start past xs zs own (passes_none lawful start past xs 11) c.in_ok-no_clash.ensures.cases) c.in_ok-no_clash-2.ensures.cases) c.in_ok-no_clash-3.ensures.cases) c.in_err-no_clash-4.ensures.cases);
 }
 

@@ -31,7 +31,7 @@ pub returns-in_err-no_excess : goal.returns-in_err-no_excess
 returns-in_err-no_excess c = record {
   cases = λ lawful start past many.
       let xs = c.args.packet.now in
-      exit (λ _. Passes lawful start past xs 16 18) (FaultFrom lawful start past xs 16) c.from-residual.result c.in_err-no_excess.field-0.0 c.from-residual.ensures.1
+      exit (λ _. Passes lawful start past xs 16 18) (FaultFrom lawful start past xs 16) c.from_residual.result c.in_err-no_excess.field-0.0 c.from_residual.ensures.1
       (fault_cross lawful start past xs c.args.packets many c.in_err-no_excess.field-0.0 c.in_err-no_excess.ensures.cases);
 }
 

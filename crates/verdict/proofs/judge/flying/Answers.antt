@@ -52,7 +52,7 @@ pub returns-in_err-no_clash : goal.returns-in_err-no_clash
 returns-in_err-no_clash c = record {
   cases = λ lawful start past xs many joined.
       let zs = c.args.entries.now in
-      exit (λ _. Passes lawful start past xs 18 20) (FaultFrom lawful start past xs 18) c.from-residual.result c.in_err-no_clash.field-0.0 c.from-residual.ensures.1
+      exit (λ _. Passes lawful start past xs 18 20) (FaultFrom lawful start past xs 18) c.from_residual.result c.in_err-no_clash.field-0.0 c.from_residual.ensures.1
       (fault_port lawful start past xs zs c.args.from many joined c.in_err-no_clash.field-0.0 c.in_err-no_clash.ensures.cases);
 }
 

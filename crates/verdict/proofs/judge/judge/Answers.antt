@@ -19,7 +19,7 @@ returns-in_err-beside c = record {
       let xs : List Instruction = listed c.args.packet.now in
       let own = own_slots c.as_slice-all.result.now (listed h.flight) c.in_flight-from.result h.packets h.cycle (length past) (cycles past) xs c.in_flight-from.ensures.value stands.many stands.time
       (ap issues c.as_slice-all.ensures.entries ∙ c.joined-entries.ensures.issued) in
-      exit (AcceptedAs h.lawful start past xs) (RefusedWith h.lawful start past xs) c.from-residual.result c.in_err-beside.field-0.0 c.from-residual.ensures.1
+      exit (AcceptedAs h.lawful start past xs) (RefusedWith h.lawful start past xs) c.from_residual.result c.in_err-beside.field-0.0 c.from_residual.ensures.1
       (refused_of h.lawful start past xs 11 c.in_err-beside.field-0.0 (passes_none h.lawful start past xs 11) (c.in_err-beside.ensures.cases h.lawful start past xs own));
   order = slot_order_free;
 }
@@ -34,7 +34,7 @@ returns-in_err-counted c = record {
       let first = c.in_ok-beside.ensures.cases h.lawful start past xs own in
       let many = c.packets.ensures.value ∙ stands.many in
       let slice = c.as_slice.ensures.entries in
-      exit (AcceptedAs h.lawful start past xs) (RefusedWith h.lawful start past xs) c.from-residual-in_err-counted.result c.in_err-counted.field-0.0 c.from-residual-in_err-counted.ensures.1
+      exit (AcceptedAs h.lawful start past xs) (RefusedWith h.lawful start past xs) c.from_residual-in_err-counted.result c.in_err-counted.field-0.0 c.from_residual-in_err-counted.ensures.1
       (refused_of h.lawful start past xs 16 c.in_err-counted.field-0.0 first (subst (λ (l : List Instruction). FaultFrom h.lawful start past l 16 c.in_err-counted.field-0.0) slice (c.in_err-counted.ensures.cases h.lawful start past many)));
   order = slot_order_free;
 }
@@ -53,7 +53,7 @@ returns-in_err-flying c = record {
       let before = passes_then h.lawful start past xs 11 16 18 first second in
       let front = front_of past (listed h.flight) c.in_flight-from.result c.in_flight-from.ensures.value stands.flying in
       let joined : Joined h.lawful start past xs c.as_slice-all.result.now = subst (λ (l : List InFlight). Joined h.lawful start past xs l) (sym c.as_slice-all.ensures.entries) (c.joined-entries.ensures.joined start past stands) in
-      exit (AcceptedAs h.lawful start past xs) (RefusedWith h.lawful start past xs) c.from-residual-in_err-flying.result c.in_err-flying.field-0.0 c.from-residual-in_err-flying.ensures.1
+      exit (AcceptedAs h.lawful start past xs) (RefusedWith h.lawful start past xs) c.from_residual-in_err-flying.result c.in_err-flying.field-0.0 c.from_residual-in_err-flying.ensures.1
       (refused_of h.lawful start past xs 18 c.in_err-flying.field-0.0 before (c.in_err-flying.ensures.cases h.lawful start past xs front joined));
   order = slot_order_free;
 }
