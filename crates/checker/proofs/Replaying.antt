@@ -1,5 +1,5 @@
 -- What holds of every replay, from the laws of the book. Assumes nothing.
-use Rattle.std.proofs.Common.{◌≡◌, List, [], ◌∷◌, ◌++◌, Result, sym, refl, ap, ◌∙◌, subst, ap₂}
+use Rattle.std.proofs.Common.{◌≡◌, List, [], ◌∷◌, ◌++◌, Result, sym, refl, ◌∙◌, subst, ap₂}
 use Rattle.std.proofs.lemmas.List.{append_cancel_left}
 use Rattle.constraints.specs.declared.fault.Fault.{Fault}
 use Rattle.book.specs.declared.calls.Call.{Call}

@@ -1,14 +1,13 @@
 -- A record that is turned away, is open, or completes its packet. Assumes nothing.
-use Rattle.std.proofs.Common.{◌≡◌, ℕ, ◌+◌, ◌<◌, ◌≤◌, Bool, true, false, cond, ltb, ◌⊎◌, List, [], ◌∷◌, ◌++◌, length, take, Some, None, Ok, Err, Option, Result, sym, refl, ap, ◌∙◌, subst, inl, inr, ⊎_elim, arith}
+use Rattle.std.proofs.Common.{◌≡◌, ℕ, ◌<◌, ◌≤◌, true, false, ltb, List, [], ◌∷◌, ◌++◌, length, take, Some, None, Ok, Err, Option, Result, sym, refl, ap, ◌∙◌, inl, inr, ⊎_elim, arith}
 use Rattle.std.proofs.lemmas.List.{length_push, take_all}
 use Rattle.std.proofs.lemmas.Bool.{cases_eq, both_ways, lt-ltb, le-ltb, cond-true, cond-false}
 use Rattle.isa.specs.declared.record.Record.{Record}
 use Rattle.isa.specs.declared.row.Row.{Row}
 use Rattle.isa.specs.Refusals.{number}
 use Rattle.admission.specs.declared.instruction.Instruction.{Instruction}
-use Rattle.admission.specs.Instructions.{instruction, Means}
+use Rattle.admission.specs.Instructions.{Means}
 use Rattle.admission.specs.Refusals.{RefusedBy, Least}
-use Rattle.runs.specs.declared.valuations.Valuations.{Valuations}
 use Rattle.constraints.specs.declared.fault.Fault.{Fault}
 use Rattle.verdict.proofs.Verdicts.{breaks_low}
 use Rattle.book.specs.declared.calls.Answer.{Answer}
@@ -17,7 +16,7 @@ use Rattle.book.specs.Books.{Rules, Book, more, meant, with, Untaken, Taken, Sta
 use Rattle.checker.specs.declared.checker.State.{State}
 use Rattle.checker.specs.declared.checker.State.TheVariants.{Idle, Gathering, Closed}
 use Rattle.checker.specs.declared.checker.Checker.{Checker}
-use Rattle.checker.specs.Stands.{Fits, Stands, Unchanged, Verdict, after_packet}
+use Rattle.checker.specs.Stands.{Fits, Unchanged, Verdict, after_packet}
 
 -- a record that does not fit its row is refused by 3 to 8
 fit_bounds : (o : Option Row) (r : Record) (n : ℕ) → RefusedBy o r n → (3 ≤ n) × (n ≤ 8)

@@ -1,5 +1,5 @@
 -- Which book a checker stands for.
-use Rattle.std.specs.Prelude.{◌≡◌, ℕ, ◌<◌, ◌≤◌, Bool, true, false, List, [], ◌∷◌, length, Ok, Err, Option, Result}
+use Rattle.std.specs.Prelude.{◌≡◌, ℕ, ◌<◌, ◌≤◌, true, false, List, [], length, Ok, Err, Option, Result}
 use Rattle.isa.specs.declared.row.Row.{Row}
 use Rattle.isa.specs.Refusals.{number}
 use Rattle.admission.specs.declared.instruction.Instruction.{Instruction}

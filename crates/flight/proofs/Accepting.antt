@@ -1,13 +1,11 @@
 -- What is kept stands for one packet more. Assumes nothing.
-use Rattle.std.proofs.Common.{◌≡◌, ℕ, ◌+◌, ◌<◌, ◌≤◌, List, [], ◌∷◌, ◌++◌, map, length, take, sym, refl, ap, ◌∙◌, subst, arith}
+use Rattle.std.proofs.Common.{◌≡◌, ℕ, ◌+◌, ◌<◌, ◌≤◌, List, [], ◌∷◌, ◌++◌, length, take, sym, ap, ◌∙◌, subst, arith}
 use Rattle.std.specs.List.{AllByRecursion as All}
 use Rattle.std.proofs.lemmas.List.{length_push, take_all}
 use Rattle.admission.specs.declared.instruction.Instruction.{Instruction}
 use Rattle.runs.specs.declared.valuations.Changes.{Changes}
 use Rattle.runs.specs.Valuations.{Iff, MayChange}
-use Rattle.hazards.specs.Lengths.{packet_length}
-use Rattle.hazards.proofs.Longest.{at_least_one}
-use Rattle.constraints.specs.Schedules.{cycles, May}
+use Rattle.constraints.specs.Schedules.{cycles}
 use Rattle.constraints.proofs.Reordering.{stands_inside}
 use Rattle.flight.specs.declared.issued.InFlight.{InFlight}
 use Rattle.flight.specs.Issues.{positions, kept, SomeFrees}

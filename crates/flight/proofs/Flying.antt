@@ -1,5 +1,5 @@
 -- Entries that are the flight of a schedule: each stands there, each that may still land is one of them, in order. Assumes nothing.
-use Rattle.std.proofs.Common.{◌≡◌, ℕ, zero, suc, ◌+◌, ◌<◌, ◌≤◌, Bool, true, false, cond, List, [], ◌∷◌, ◌++◌, map, get_or, Some, None, Option, sym, refl, ap, ◌∙◌, subst, ⊎_elim, arith, le-leb}
+use Rattle.std.proofs.Common.{◌≡◌, ℕ, zero, suc, ◌+◌, ◌<◌, ◌≤◌, Bool, true, false, cond, List, [], ◌∷◌, ◌++◌, map, get_or, Some, None, Option, sym, ap, subst, arith, le-leb}
 use Rattle.std.specs.Option.{option_map}
 use Rattle.std.specs.List.{AllByRecursion as All}
 use Rattle.std.proofs.ByRecursion.{all_kept_by}
@@ -11,12 +11,11 @@ use Rattle.isa.specs.declared.width.Width.{Width}
 use Rattle.isa.specs.declared.width.Width.TheVariants.{Absent, Single, Pair}
 use Rattle.admission.specs.declared.instruction.Instruction.{Instruction}
 use Rattle.admission.specs.declared.instruction.Write.{Write}
-use Rattle.admission.specs.Operands.{halves, result_width, result_write, base_write, write_places}
+use Rattle.admission.specs.Operands.{halves, result_width, result_write, base_write}
 use Rattle.constraints.specs.Schedules.{issue, Stands, Writes, Lands}
 use Rattle.constraints.proofs.Moving.{none_some, some_one}
-use Rattle.flight.specs.declared.issued.Issued.{Issued}
 use Rattle.flight.specs.declared.issued.InFlight.{InFlight}
-use Rattle.flight.specs.Issues.{positions, live, kept}
+use Rattle.flight.specs.Issues.{positions, live}
 use Rattle.flight.specs.Kept.{FlightOf}
 use Rattle.flight.proofs.Entries.{Any, all_at, at_map, any_map, any_kept}
 use Rattle.flight.proofs.Positions.{FromPackets, positions_sound, Is, positions_has}

@@ -1,8 +1,7 @@
 -- One packet more behind a schedule: what issues, lands and may change before it stays as it was. Assumes nothing.
-use Rattle.std.proofs.Common.{◌≡◌, ℕ, ◌+◌, ◌<◌, ◌≤◌, List, [], ◌∷◌, ◌++◌, length, get_or, take, Some, None, Option, sym, refl, ap, ◌∙◌, subst, ⊎_elim, arith}
-use Rattle.std.proofs.lemmas.List.{take-append-le, take_at, take_all, length-append, length_push}
+use Rattle.std.proofs.Common.{◌≡◌, ℕ, ◌+◌, ◌<◌, ◌≤◌, List, [], ◌∷◌, ◌++◌, length, get_or, Some, None, Option, sym, refl, ap, ◌∙◌, subst, ⊎_elim, arith}
+use Rattle.std.proofs.lemmas.List.{take-append-le, take_at, take_all, length_push}
 use Rattle.std.proofs.lemmas.List.Sums.{sum_by-take-le, sum_by_push}
-use Rattle.isa.specs.BuiltIn.{at}
 use Rattle.isa.specs.declared.condition.Condition.{Condition}
 use Rattle.admission.specs.declared.instruction.Instruction.{Instruction}
 use Rattle.admission.specs.declared.instruction.Write.{Write}
@@ -12,10 +11,10 @@ use Rattle.runs.specs.Valuations.{Iff}
 use Rattle.runs.specs.Runs.{Carries}
 use Rattle.runs.proofs.Carrying.{carries_like}
 use Rattle.hazards.specs.Lengths.{packet_length}
-use Rattle.constraints.specs.Schedules.{cycles, issue, Stands, Writes, Lands, Tested, May}
+use Rattle.constraints.specs.Schedules.{cycles, issue, Lands, Tested, May}
 use Rattle.constraints.proofs.Reordering.{stands_push_cases, stands_before, stands_inside}
 use Rattle.flight.specs.declared.issued.InFlight.{InFlight}
-use Rattle.flight.specs.Issues.{FreedBy, Frees, SomeFrees}
+use Rattle.flight.specs.Issues.{FreedBy, SomeFrees}
 use Rattle.flight.specs.Kept.{FlightOf}
 use Rattle.flight.proofs.Flying.{landing_has, landing_of}
 

@@ -1,15 +1,14 @@
 -- The mask of a condition register. Assumes nothing.
-use Rattle.std.proofs.Common.{◌≡◌, ℕ, zero, suc, ◌+◌, ◌<◌, ◌≤◌, max, Bool, true, false, cond, not, T, eqb, ◌⊎◌, List, [], ◌∷◌, length, get_or, take, None, Option, sym, refl, ap, ◌∙◌, subst, inl, inr, ⊎_elim, arith, eq-eqb, eqb-true}
+use Rattle.std.proofs.Common.{◌≡◌, ℕ, zero, suc, ◌+◌, ◌<◌, ◌≤◌, Bool, true, false, cond, not, T, eqb, ◌⊎◌, List, [], ◌∷◌, length, get_or, take, None, Option, sym, refl, ap, ◌∙◌, subst, inl, inr, ⊎_elim, arith, eq-eqb, eqb-true}
 use lib.Bits.{bit_or}
 use Rattle.std.proofs.lemmas.List.{take_more}
-use Rattle.std.proofs.lemmas.Bool.{cases_lt, cases_eq}
+use Rattle.std.proofs.lemmas.Bool.{cases_lt}
 use Rattle.std.proofs.lemmas.Bool.Decides.{nat_tests}
 use Rattle.isa.specs.Bits.{bit}
 use Rattle.isa.specs.declared.condition.ConditionRegister.{ConditionRegister}
 use Rattle.isa.specs.declared.condition.ConditionRegister.TheVariants.{B0, B1, B2, A1, A2, A0}
-use Rattle.isa.specs.declared.register.Register.{Register}
 use Rattle.runs.specs.Valuations.{Iff, place}
-use Rattle.runs.proofs.Table.{below2, at2}
+use Rattle.runs.proofs.Table.{at2}
 use Rattle.runs.proofs.Sets.{bit-bit_or, zero_or_one}
 use Rattle.constraints.specs.Schedules.{register_number, Tested}
 use Rattle.flight.specs.declared.issued.InFlight.{InFlight}

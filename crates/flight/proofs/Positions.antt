@@ -1,19 +1,16 @@
 -- The instructions of a schedule in a list: which stand there, in which order, and how many are kept. Assumes nothing.
-use Rattle.std.proofs.Common.{◌≡◌, ℕ, zero, suc, ◌+◌, ◌*◌, ◌<◌, ◌≤◌, Bool, true, false, cond, leb, ◌⊎◌, List, [], ◌∷◌, ◌++◌, map, length, take, Some, sum_by, filter, sym, refl, ap, ◌∙◌, subst, ap₂, inl, inr, ⊎_elim, arith}
+use Rattle.std.proofs.Common.{◌≡◌, ℕ, zero, suc, ◌+◌, List, [], ◌∷◌, ◌++◌, length, take, Some, sym, refl, ap, ◌∙◌, subst, ap₂, arith}
 use Rattle.std.specs.List.{AllByRecursion as All}
-use Rattle.std.proofs.lemmas.List.Elements.{filter-append}
-use Rattle.std.proofs.ByRecursion.{All-append, All-weaker, all_kept_by}
-use Rattle.std.proofs.lemmas.List.{append_assoc, append-nil, length-append}
+use Rattle.std.proofs.ByRecursion.{All-append, All-weaker}
+use Rattle.std.proofs.lemmas.List.{append_assoc, append-nil}
 use Rattle.std.proofs.lemmas.List.Sums.{sum_by-cons}
 use Rattle.isa.specs.BuiltIn.{at}
-use Rattle.isa.specs.Classes.{delay}
 use Rattle.admission.specs.declared.instruction.Instruction.{Instruction}
 use Rattle.hazards.specs.Lengths.{packet_length}
 use Rattle.constraints.specs.Schedules.{cycles, issue, Stands}
-use Rattle.constraints.specs.Faults.{Before}
 use Rattle.constraints.proofs.Moving.{none_some, some_one}
 use Rattle.flight.specs.declared.issued.Issued.{Issued}
-use Rattle.flight.specs.Issues.{issued_at, slots, positions, live, kept}
+use Rattle.flight.specs.Issues.{issued_at, slots, positions}
 use Rattle.flight.proofs.Entries.{Any, any_left, any_right, any_later}
 
 -- q comes from slot s or a later one of packet k, which holds xs from slot s on and issues in cycle c

@@ -1,8 +1,7 @@
 -- One of three places, and one of a list, by tests in turn. Assumes nothing.
-use Rattle.std.proofs.Common.{◌≡◌, ℕ, ◌+◌, ◌<◌, ◌≤◌, Bool, true, false, List, [], ◌∷◌, ◌++◌, length, get_or, take, Some, None, Decides, Option, sym, refl, ap, ◌∙◌, subst, ⊎_elim, arith}
+use Rattle.std.proofs.Common.{◌≡◌, ℕ, ◌+◌, ◌<◌, ◌≤◌, Bool, true, false, List, length, get_or, take, Some, None, Decides, Option, sym, refl, ap, ◌∙◌, subst, ⊎_elim, arith}
 use Rattle.std.proofs.lemmas.Bool.{both_ways}
 use Rattle.std.proofs.lemmas.List.{take_more, take_all}
-use Rattle.isa.specs.BuiltIn.{at}
 use Rattle.isa.specs.declared.register.Register.{Register}
 use Rattle.admission.specs.declared.instruction.Instruction.{Instruction}
 use Rattle.admission.specs.declared.instruction.Write.{Write}

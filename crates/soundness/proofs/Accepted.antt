@@ -1,20 +1,18 @@
 -- The accepted packets broke no constraint when they were judged, and so break none together. Assumes nothing.
-use Rattle.std.proofs.Common.{◌≡◌, ℕ, ◌+◌, ◌-◌, ◌<◌, ◌≤◌, Bool, true, false, cond, ltb, ◌⊎◌, List, [], ◌∷◌, ◌++◌, length, take, Some, Ok, Err, Result, sym, refl, ap, ◌∙◌, subst, subst₂, inl, inr, ⊎_elim, arith}
+use Rattle.std.proofs.Common.{◌≡◌, ℕ, ◌-◌, ◌≤◌, Bool, true, false, cond, ltb, List, [], ◌∷◌, ◌++◌, length, take, Some, Ok, Err, Result, sym, refl, ap, ◌∙◌, subst, inl, inr, ⊎_elim, arith}
 use Rattle.std.proofs.lemmas.List.{length-take, take-append-le, take_at}
-use Rattle.std.proofs.lemmas.Bool.{cases_lt, cases_eq}
+use Rattle.std.proofs.lemmas.Bool.{cases_lt}
 use Rattle.isa.specs.BuiltIn.{at}
-use Rattle.isa.specs.declared.record.Record.{Record}
 use Rattle.isa.specs.Refusals.{number}
 use Rattle.admission.specs.declared.instruction.Instruction.{Instruction}
 use Rattle.runs.specs.declared.valuations.Valuations.{Valuations}
-use Rattle.runs.specs.Valuations.{Meets, Has}
+use Rattle.runs.specs.Valuations.{Meets}
 use Rattle.runs.proofs.Sets.{some_bit}
-use Rattle.claims.specs.Kinds.{SameUnit, SameDataPath, NonalignedPair, CrossOperands}
 use Rattle.claims.specs.Landings.{port_claim, SamePort}
 use Rattle.claims.specs.Mutual.{same_port_mutual}
 use Rattle.constraints.specs.declared.fault.Fault.{Fault}
-use Rattle.constraints.specs.Schedules.{cycles, issue, Stands, May}
-use Rattle.constraints.specs.Constraints.{WriteTogether, PerformsBoth, Beside, Clash, ClashAt, Breaks}
+use Rattle.constraints.specs.Schedules.{issue, Stands, May}
+use Rattle.constraints.specs.Constraints.{WriteTogether, Beside, Clash, Breaks}
 use Rattle.constraints.proofs.Moving.{at_inside, at_one, at_push_cases}
 use Rattle.constraints.proofs.Reordering.{stands_before, stands_last, stands_inside}
 use Rattle.book.specs.declared.calls.Call.{Call}
@@ -22,8 +20,8 @@ use Rattle.book.specs.declared.calls.Call.TheVariants.{Take, Totals as AskTotals
 use Rattle.book.specs.declared.calls.Answer.{Answer}
 use Rattle.book.specs.declared.calls.Answer.TheVariants.{Open, Accepted, Totals as Told, Closed}
 use Rattle.book.specs.Books.{Rules, Book, Says, after, SaysAll, after_all, opened, holding}
-use Rattle.soundness.specs.Sound.{TwoClaim, Overclaims, RunOf, Sound, AcceptedSound, SomeRun}
-use Rattle.soundness.proofs.Prefixes.{at_take, issue_take, stands_take, run_take}
+use Rattle.soundness.specs.Sound.{Overclaims, RunOf, AcceptedSound, SomeRun}
+use Rattle.soundness.proofs.Prefixes.{issue_take, stands_take, run_take}
 
 -- each packet broke no constraint behind those before it
 abbrev Checked : Valuations → List (List Instruction) → Type 0

@@ -1,8 +1,8 @@
 -- The claims of entries, and the first clash among them. Assumes nothing.
-use Rattle.std.proofs.Common.{◌≡◌, ℕ, zero, suc, ◌+◌, ◌<◌, ◌≤◌, List, [], ◌∷◌, ◌++◌, map, length, get_or, take, sym, refl, ap, ◌∙◌, subst, subst₂, arith}
+use Rattle.std.proofs.Common.{◌≡◌, ℕ, zero, suc, ◌+◌, ◌<◌, List, [], ◌∷◌, ◌++◌, map, length, get_or, take, sym, refl, ap, ◌∙◌, subst₂, arith}
 use Rattle.std.proofs.lemmas.List.{take_more, map-append, length-map, get_or_default}
 use Rattle.bounded.proofs.Pushing.{take_push}
-use Rattle.claims.specs.Claims.{ClashAt, FreeBefore, FreeFrom, FirstClash}
+use Rattle.claims.specs.Claims.{ClashAt, FreeFrom, FirstClash}
 
 -- one claim more
 pub claimed_more : {X Y : Type 0} (f : X → Y) (m : ℕ) (es : List X) (n : ℕ) (d : X) (c : Y) (list after : List Y) → n < length es → c ≡ f (get_or es n d)

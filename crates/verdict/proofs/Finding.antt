@@ -1,18 +1,16 @@
 -- From the first clash among entries to the constraint that a packet breaks, and its places: one argument for every kind. Assumes nothing.
-use Rattle.std.proofs.Common.{◌≡◌, ℕ, zero, suc, ◌+◌, ◌-◌, ◌<◌, ◌≤◌, ◌⊎◌, List, [], ◌∷◌, ◌++◌, map, length, get_or, take, Some, sym, refl, ap, ◌∙◌, subst, subst₂, inl, inr, ⊎_elim, arith}
+use Rattle.std.proofs.Common.{◌≡◌, ℕ, zero, suc, ◌+◌, ◌-◌, ◌<◌, ◌≤◌, List, [], ◌∷◌, ◌++◌, length, take, Some, sym, refl, ap, ◌∙◌, subst, subst₂, inl, ⊎_elim, arith}
 use Rattle.std.proofs.lemmas.List.{length-append, length-map, length-take}
 use Rattle.std.proofs.lemmas.Bool.{cases_lt, cases_eq}
 use Rattle.isa.specs.BuiltIn.{at}
 use Rattle.admission.specs.declared.instruction.Instruction.{Instruction}
-use Rattle.admission.specs.Refusals.{Least}
 use Rattle.runs.specs.declared.valuations.Valuations.{Valuations}
 use Rattle.claims.specs.Claims as claims
 use Rattle.claims.specs.Claims.{FreeFrom, FirstClash}
-use Rattle.hazards.specs.Counts.{CrossExcess, ReadExcess}
 use Rattle.constraints.specs.Schedules.{cycles, issue, Stands}
 use Rattle.constraints.specs.Constraints.{Clash, ClashAt, Breaks}
-use Rattle.constraints.specs.Faults.{Before, Later, FirstWith}
-use Rattle.constraints.proofs.Moving.{none_some, some_one, at_inside, at_get_or, at_one, at_append_left}
+use Rattle.constraints.specs.Faults.{Later, FirstWith}
+use Rattle.constraints.proofs.Moving.{at_inside, at_get_or, at_one, at_append_left}
 use Rattle.constraints.proofs.Reordering.{stands_push_cases, stands_before, stands_last, stands_inside}
 use Rattle.flight.specs.declared.issued.Issued.{Issued}
 use Rattle.flight.specs.declared.issued.InFlight.{InFlight}

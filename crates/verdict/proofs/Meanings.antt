@@ -1,7 +1,6 @@
 -- What each kind of claim says of two entries is what its constraint says of their instructions. Assumes nothing.
-use Rattle.std.proofs.Common.{◌≡◌, ℕ, zero, suc, ◌+◌, ◌<◌, ◌≤◌, ◌⊎◌, List, [], ◌∷◌, ◌++◌, map, length, get_or, take, Some, None, Option, sym, refl, ap, ◌∙◌, subst, ap₂, subst₂, inl, inr, ⊎_elim, arith}
+use Rattle.std.proofs.Common.{◌≡◌, ℕ, zero, suc, ◌+◌, ◌<◌, ◌≤◌, List, [], ◌∷◌, ◌++◌, map, length, get_or, Some, None, Option, sym, refl, ap, ◌∙◌, subst, ap₂, subst₂, inl, inr, ⊎_elim, arith}
 use Rattle.std.specs.Option.{option_map}
-use Rattle.std.specs.List.{AllByRecursion as All}
 use Rattle.std.proofs.ByRecursion.{all_kept_by}
 use Rattle.std.proofs.lemmas.List.{take_all}
 use Rattle.isa.specs.BuiltIn.{at}
@@ -17,11 +16,10 @@ use Rattle.claims.specs.declared.write.WriteClaim.{WriteClaim}
 use Rattle.claims.specs.Kinds.{SameUnit, TwoLongNops, SameDataPath, NonalignedPair, CrossOperands}
 use Rattle.claims.specs.Landings.{port_claim, SamePort, landing, landings, SameLanding, DoubleWrite}
 use Rattle.claims.specs.Mutual.{same_port_mutual, double_write_mutual}
-use Rattle.constraints.specs.Schedules.{cycles, issue, Stands, Writes, May}
-use Rattle.constraints.specs.Constraints.{WriteTogether, PerformsBoth, Beside, ClashInFlight, Clash}
+use Rattle.constraints.specs.Schedules.{cycles, issue, Stands, May}
+use Rattle.constraints.specs.Constraints.{WriteTogether, Beside}
 use Rattle.constraints.proofs.Moving.{none_some, some_one}
 use Rattle.constraints.proofs.Reordering.{stands_before, stands_inside}
-use Rattle.flight.specs.declared.issued.Issued.{Issued}
 use Rattle.flight.specs.declared.issued.InFlight.{InFlight}
 use Rattle.flight.specs.Issues.{slots, positions, live, kept}
 use Rattle.flight.specs.Kept.{Performed, FlightOf, Joined}
@@ -32,7 +30,7 @@ use Rattle.flight.proofs.Joining.{flight_behind}
 use Rattle.flight.proofs.Keeping.{Ordered, slots_ordered, kept_ordered}
 use Rattle.flight.proofs.Positions.{FromPackets, positions_sound}
 use Rattle.flight.proofs.Stepping.{issues}
-use Rattle.verdict.proofs.Finding.{Lined, Behind, entry_behind, entry_old, Says}
+use Rattle.verdict.proofs.Finding.{Lined, entry_behind, entry_old, Says}
 
 -- the entries of a packet alone
 pub lined_own : (past : List (List Instruction)) (xs : List Instruction) (zs : List InFlight) → issues zs ≡ slots (length past) (cycles past) 0 xs → Lined past xs zs 0

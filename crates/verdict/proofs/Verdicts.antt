@@ -1,5 +1,5 @@
 -- A fault by its places, and constraint after constraint. Assumes nothing.
-use Rattle.std.proofs.Common.{◌≡◌, ℕ, ◌+◌, ◌-◌, ◌<◌, ◌≤◌, ◌⊎◌, List, [], ◌∷◌, ◌++◌, map, length, take, drop, IsErrAnd, Ok, Err, Result, sym, refl, ap, ◌∙◌, subst, ap₂, inl, inr, ⊎_elim, arith, MatchResult}
+use Rattle.std.proofs.Common.{◌≡◌, ℕ, ◌+◌, ◌-◌, ◌<◌, ◌≤◌, ◌⊎◌, List, ◌++◌, length, take, drop, IsErrAnd, Err, Result, sym, refl, ap, ◌∙◌, subst, ap₂, inl, inr, ⊎_elim, arith, MatchResult}
 use Rattle.std.proofs.lemmas.List.{length-map, take_rest, drop-map, drop_at}
 use Rattle.std.proofs.lemmas.List.Sums.{sum_by-take-le}
 use Rattle.std.proofs.lemmas.Bool.{cases_lt, cases_eq}
@@ -10,7 +10,6 @@ use Rattle.admission.specs.declared.instruction.Instruction.{Instruction}
 use Rattle.runs.specs.declared.valuations.Valuations.{Valuations}
 use Rattle.claims.specs.Claims.{FreeFrom}
 use Rattle.hazards.specs.Counts.{cross_use, CrossExcess, mentions, ReadExcess}
-use Rattle.hazards.specs.Faults.{FirstSlot}
 use Rattle.constraints.specs.declared.fault.Place.{Place}
 use Rattle.constraints.specs.declared.fault.Fault.{Fault}
 use Rattle.constraints.specs.Constraints.{ClashAt, Breaks}

@@ -1,4 +1,4 @@
-use Rattle.std.proofs.Common.{◌≡◌, List, vec_items, sym, ap, ◌∙◌, subst, arith}
+use Rattle.std.proofs.Common.{List, vec_items, ◌∙◌, subst, arith}
 use Rattle.std.proofs.lemmas.List.{take_all}
 use Rattle.book.specs.declared.calls.Call.{Call}
 use Rattle.checker.specs.Stands.{rules_of}

@@ -1,9 +1,8 @@
-use Rattle.std.proofs.Common.{◌≡◌, List, length, vec_items, sym, refl, ap, ◌∙◌, subst, arith, rules}
+use Rattle.std.proofs.Common.{vec_items, refl, arith}
 use Rattle.std.proofs.lemmas.Result.{IfOk-from_err, MatchResult-from_err}
 use Rattle.book.specs.Books.{Rules, opened}
 use Rattle.decision.proofs.Answering.{answer, answer_says}
 use Rattle.soundness.proofs.Accepted.{some_run}
-use Rattle.checker.specs.Stands.{rules_of}
 use Rattle.checker.specs.Replays.{AnswersFrom}
 use Rattle.checker.proofs.Performing.{answers_of}
 use Rattle.checker.proofs.Replaying.{only_answers, never_overclaimed, order_free}

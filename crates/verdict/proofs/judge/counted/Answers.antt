@@ -1,4 +1,4 @@
-use Rattle.std.proofs.Common.{◌≡◌, ℕ, List, length, sym, refl, subst, inl, inr, arith}
+use Rattle.std.proofs.Common.{◌≡◌, ℕ, List, length, refl, subst, inl, inr, arith}
 use Rattle.std.proofs.lemmas.Result.{MatchResult-weaker}
 use Rattle.isa.specs.declared.refusal.Refusal.TheVariants.{CrossPathCount, ReadCount}
 use Rattle.admission.specs.declared.instruction.Instruction.{Instruction}

@@ -1,4 +1,4 @@
-use Rattle.std.proofs.Common.{◌≡◌, ℕ, List, length, Decides, sym, ap, ◌∙◌, subst, arith}
+use Rattle.std.proofs.Common.{List, length, sym, ap, ◌∙◌, subst}
 use Rattle.admission.specs.declared.instruction.Instruction.{Instruction}
 use Rattle.hazards.specs.Lengths.{packet_length}
 use Rattle.bounded.specs.Listed.{listed}

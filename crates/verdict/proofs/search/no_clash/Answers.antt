@@ -1,4 +1,4 @@
-use Rattle.std.proofs.Common.{◌≡◌, ◌<◌, List, map, length, sym, refl, ap, ◌∙◌, subst, arith}
+use Rattle.std.proofs.Common.{List, length, refl, subst}
 use Rattle.claims.specs.Claims.{FreeFrom, FirstClash}
 use Rattle.verdict.proofs.Claiming.{free_of, first_of, inside_of}
 use Rattle.verdict.proofs.search.no_clash.Goals as goal

@@ -1,11 +1,11 @@
-use Rattle.std.proofs.Common.{◌≡◌, ℕ, ◌+◌, ◌<◌, ◌≤◌, true, false, List, [], ◌∷◌, ◌++◌, length, sym, refl, ap, ◌∙◌, subst, inl, inr, arith, rules}
+use Rattle.std.proofs.Common.{◌≡◌, ◌+◌, ◌<◌, true, false, List, [], ◌∷◌, ◌++◌, length, sym, refl, ap, ◌∙◌, subst, inl, arith, rules}
 use Rattle.std.proofs.lemmas.List.{length_push}
 use Rattle.std.proofs.lemmas.Bool.{both_ways}
 use Rattle.isa.specs.Refusals.{number}
 use Rattle.admission.specs.declared.instruction.Instruction.{Instruction}
 use Rattle.admission.specs.Refusals.{RefusedBy, Least}
 use Rattle.bounded.specs.Listed.{listed}
-use Rattle.book.specs.Books.{Rules, Book, more, with}
+use Rattle.book.specs.Books.{Rules, more, with}
 use Rattle.checker.specs.Stands.{rules_of, Stands}
 use Rattle.checker.proofs.Taking.{meant_one, room_of, turned_by, after_turned, fit_small, taken, says_verdict, after_verdict, no_refusal, pushed}
 use Rattle.checker.proofs.checker.Checker.add.Goals as goal

@@ -1,4 +1,4 @@
-use Rattle.std.proofs.Common.{◌++◌, map, take, ap, ◌∙◌, arith}
+use Rattle.std.proofs.Common.{◌++◌, take, ap, ◌∙◌, arith}
 use Rattle.std.proofs.lemmas.List.{take_all}
 use Rattle.bounded.specs.Listed.{listed}
 use Rattle.flight.specs.Issues.{slots}
