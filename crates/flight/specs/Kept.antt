@@ -1,6 +1,6 @@
 -- What the numbers and entries kept of accepted packets stand for.
 use Rattle.std.specs.Prelude.{◌≡◌, ℕ, ◌<◌, ◌≤◌, List, [], ◌∷◌, ◌++◌, map, length}
-use Rattle.std.specs.List.{AllByRecursion as All}
+use Rattle.std.specs.List.{AllByRecursion}
 use Rattle.admission.specs.declared.instruction.Instruction.{Instruction}
 use Rattle.runs.specs.declared.valuations.Valuations.{Valuations}
 use Rattle.runs.specs.Runs.{Carries, Reaches}
@@ -22,15 +22,15 @@ FlightOf ps c es = map (λ e. e.issued) es ≡ kept c (positions 0 0 ps)
 pub record StandsFor (h : History) (start : Valuations) (past : List (List Instruction)) : Type 0 where
   pub many : h.packets ≡ length past
   pub time : h.cycle ≡ cycles past
-  pub narrow : All (λ p. length p ≤ 8) past
+  pub narrow : AllByRecursion (λ p. length p ≤ 8) past
   pub reached : Reaches h.lawful start (May past) (length past) h.reachable
   pub flying : FlightOf past (cycles past) (listed h.flight)
-  pub performed : All (Performed h.lawful start past) (listed h.flight)
+  pub performed : AllByRecursion (Performed h.lawful start past) (listed h.flight)
 
 -- the entries are those in flight behind past, and then the packet xs
 pub record Joined (lawful start : Valuations) (past : List (List Instruction)) (xs : List Instruction) (es : List InFlight) : Type 0 where
   pub flying : FlightOf (past ++ xs ∷ []) (cycles past) es
-  pub performed : All (Performed lawful start past) es
+  pub performed : AllByRecursion (Performed lawful start past) es
 
 -- with the packet xs accepted, h has become one that stands for the packets as before and then xs
 pub record Accepts (h : History) (xs : List Instruction) (after : History) : Type 0 where

@@ -1,6 +1,6 @@
 // The entries in flight as a packet is accepted: those that still matter, with their sets one packet on.
 ghost use Rattle.std.specs.Prelude.{◌≡◌, ℕ, ◌<◌, ◌≤◌, List, [], ◌∷◌, ◌++◌, map, length, take};
-ghost use Rattle.std.specs.List.{AllByRecursion as All};
+ghost use Rattle.std.specs.List.{AllByRecursion};
 ghost use Rattle.admission.specs.declared.instruction.Instruction.{Instruction};
 ghost use Rattle.runs.specs.declared.valuations.Valuations.{Valuations};
 ghost use Rattle.runs.specs.Valuations.{Iff, MayChange};
@@ -40,7 +40,7 @@ pub(crate) fn onward(
     changes: Changes,
 ) -> Bounded<InFlight, 40>
     ensures issued { map (λ e. e.issued) (listed result) ≡ take 40 (kept cycle (map (λ e. e.issued) entries.now)) }
-    ensures performed { (start : Valuations) (past : List (List Instruction)) (xs : List Instruction) → ((i : ℕ) → i < 6 → Iff (MayChange changes i) (May (past ++ xs ∷ []) (length past) i)) → All (λ e. e.issued.place.packet ≤ length past) entries.now → All (Performed lawful start past) entries.now → All (Performed lawful start (past ++ xs ∷ [])) (listed result) }
+    ensures performed { (start : Valuations) (past : List (List Instruction)) (xs : List Instruction) → ((i : ℕ) → i < 6 → Iff (MayChange changes i) (May (past ++ xs ∷ []) (length past) i)) → AllByRecursion (λ e. e.issued.place.packet ≤ length past) entries.now → AllByRecursion (Performed lawful start past) entries.now → AllByRecursion (Performed lawful start (past ++ xs ∷ [])) (listed result) }
 {
     let mut list = Bounded::new(UNUSED);
     for entry in entries {

@@ -1,6 +1,6 @@
 // What is kept of the accepted packets, from packet to packet.
 ghost use Rattle.std.specs.Prelude.{◌≡◌, ◌+◌, List, [], ◌∷◌, ◌++◌, map, length, take, Decides, MatchResult};
-ghost use Rattle.std.specs.List.{AllByRecursion as All};
+ghost use Rattle.std.specs.List.{AllByRecursion};
 ghost use Rattle.isa.specs.declared.refusal.Refusal.TheVariants.{ScheduleFull};
 ghost use Rattle.admission.specs.declared.instruction.Instruction.{Instruction};
 ghost use Rattle.runs.specs.declared.valuations.Valuations.{Valuations};
@@ -57,7 +57,7 @@ impl History {
     // Adds the entries of the packet behind.
     fn add(&self, entries: &mut Bounded<InFlight, 48>, packet: &[Instruction])
         ensures issued { map (λ e. e.issued) (listed entries.new) ≡ take 48 (map (λ e. e.issued) (listed entries.old) ++ slots self.now.packets self.now.cycle 0 packet.now) }
-        ensures performed { (start : Valuations) (past : List (List Instruction)) → StandsFor self.now start past → All (Performed self.now.lawful start past) (listed entries.old) → All (Performed self.now.lawful start past) (listed entries.new) }
+        ensures performed { (start : Valuations) (past : List (List Instruction)) → StandsFor self.now start past → AllByRecursion (Performed self.now.lawful start past) (listed entries.old) → AllByRecursion (Performed self.now.lawful start past) (listed entries.new) }
     {
         for slot in 0..packet.len() {
             entries.push(self.entry(slot, packet[slot]));
