@@ -13,35 +13,35 @@ use Rattle.book.specs.declared.calls.Answer.{Answer}
 use Rattle.book.specs.declared.calls.Answer.TheVariants.{Open, Accepted, Totals as Told}
 use Rattle.book.specs.Books.{Rules, opened, SaysAll}
 
--- unit.L1 has the number 1
+-- unit .L1 has the number 1
 abbrev pub L1 : ℕ
 L1 = 1
 
--- unit.S1 has 2
+-- unit .S1 has 2
 abbrev pub S1 : ℕ
 S1 = 2
 
--- unit.M1 has 3
+-- unit .M1 has 3
 abbrev pub M1 : ℕ
 M1 = 3
 
--- unit.D1 has 4
+-- unit .D1 has 4
 abbrev pub D1 : ℕ
 D1 = 4
 
--- unit.L2 has 5
+-- unit .L2 has 5
 abbrev pub L2 : ℕ
 L2 = 5
 
--- unit.S2 has 6
+-- unit .S2 has 6
 abbrev pub S2 : ℕ
 S2 = 6
 
--- unit.M2 has 7
+-- unit .M2 has 7
 abbrev pub M2 : ℕ
 M2 = 7
 
--- unit.D2 has 8
+-- unit .D2 has 8
 abbrev pub D2 : ℕ
 D2 = 8
 

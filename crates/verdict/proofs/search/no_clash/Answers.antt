@@ -1,23 +1,23 @@
-use Rattle.std.proofs.Common.{List, length, refl, subst}
+use Rattle.std.proofs.Common.{List, length, refl, subst, arith}
 use Rattle.claims.specs.Claims.{FreeFrom, FirstClash}
 use Rattle.verdict.proofs.Claiming.{free_of, first_of, inside_of}
 use Rattle.verdict.proofs.search.no_clash.Goals as goal
 
 pub place_at-requires : goal.place_at-requires
 place_at-requires g c = record {
-  inside = (inside_of g.C.EntryClaim.claimed g.C.Claim.clash c.args.entries.now c.args.claims.now c.args.from c.in-Some.clash.earlier c.in-Some.clash.later c.requires.theirs c.in-Some.ensures.cases).1;
+  inside = omega (arith, (inside_of g.C.EntryClaim.claimed g.C.Claim.clash c.args.entries.now c.args.claims.now c.args.from c.in-Some.clash.earlier c.in-Some.clash.later c.requires.theirs c.in-Some.ensures.cases).0, (inside_of g.C.EntryClaim.claimed g.C.Claim.clash c.args.entries.now c.args.claims.now c.args.from c.in-Some.clash.earlier c.in-Some.clash.later c.requires.theirs c.in-Some.ensures.cases).1);
 }
 
 pub place_at-requires-in-Some : goal.place_at-requires-in-Some
 place_at-requires-in-Some g c = record {
-  inside = (inside_of g.C.EntryClaim.claimed g.C.Claim.clash c.args.entries.now c.args.claims.now c.args.from c.in-Some.clash.earlier c.in-Some.clash.later c.requires.theirs c.in-Some.ensures.cases).0;
+  inside = omega (arith, (inside_of g.C.EntryClaim.claimed g.C.Claim.clash c.args.entries.now c.args.claims.now c.args.from c.in-Some.clash.earlier c.in-Some.clash.later c.requires.theirs c.in-Some.ensures.cases).0, (inside_of g.C.EntryClaim.claimed g.C.Claim.clash c.args.entries.now c.args.claims.now c.args.from c.in-Some.clash.earlier c.in-Some.clash.later c.requires.theirs c.in-Some.ensures.cases).1);
 }
 
 pub returns-in-Some : goal.returns-in-Some
 returns-in-Some g c =
     let p = c.in-Some.clash in
-    let (later, at-later, is_later) = c.place_at.ensures.value in
-    let (earlier, at-earlier, is-earlier) = c.place_at-in-Some.ensures.value in
+    let (later, at_later, is_later) = c.place_at.ensures.value in
+    let (earlier, at_earlier, is_earlier) = c.place_at-in-Some.ensures.value in
     record {
       cases = record {
         reason = refl;
@@ -27,9 +27,9 @@ returns-in-Some g c =
             (subst (λ (cs : List _). FirstClash g.C.Claim.clash cs c.args.from p.earlier p.later) c.requires.theirs c.in-Some.ensures.cases);
         one = earlier;
         other = later;
-        stands = at-earlier;
-        stands_later = at-later;
-        earlier = is-earlier;
+        stands = at_earlier;
+        stands_later = at_later;
+        earlier = is_earlier;
         later = is_later;
       };
     }
