@@ -1,3 +1,4 @@
 pub mod Refusals
 pub mod Instructions
 pub mod Operands
+pub mod Landings

@@ -4,56 +4,56 @@ ghost use Rattle.isa.specs.Rows.{keeps_rule};
 ghost use Rattle.admission.specs.Instructions.{instruction, Admits};
 
 use crate::instruction::Instruction;
-use crate::refusals::{
-    condition_forbidden, operand_mismatch, out_of_range, path_of, side_or_flag, unit_forbidden,
-};
+use crate::refusals::Candidate;
 use isa::condition::Condition;
-use isa::record::Record;
+use isa::record::{Flags, Record};
 use isa::refusal::Refusal;
 use isa::register::Register;
 use isa::repertoire::Repertoire;
-use isa::row::Row;
 use isa::unit::FunctionalUnit;
 
 // The typed fields of a record on its row.
-fn typed(row: Row, record: Record) -> Instruction
-    ensures value { result ≡ instruction row «record» }
-{
-    let flags = record.marks();
-    Instruction {
-        row,
-        unit: FunctionalUnit::from_byte(record.unit),
-        condition: Condition::from_byte(record.condition).unwrap_or(Condition::Always),
-        cross: flags.x,
-        path: path_of(record),
-        update: flags.u,
-        s1: Register::from_byte(record.s1),
-        s2: Register::from_byte(record.s2),
-        dst: Register::from_byte(record.dst),
-        cycles: record.count,
+impl From<Candidate> for Instruction {
+    ghost from_gives = { λ c i. i ≡ instruction c.row c.«record» };
+
+    fn from(candidate: Candidate) -> Instruction {
+        let Candidate { row, record } = candidate;
+        let flags = Flags::from(record.flags);
+        Instruction {
+            row,
+            unit: FunctionalUnit::try_from(record.unit).ok(),
+            condition: Condition::try_from(record.condition).unwrap_or(Condition::Always),
+            cross: flags.x,
+            path: candidate.path(),
+            update: flags.u,
+            s1: Register::try_from(record.s1).ok(),
+            s2: Register::try_from(record.s2).ok(),
+            dst: Register::try_from(record.dst).ok(),
+            cycles: record.count,
+        }
     }
 }
 
 // The instruction of a record on its row, or the first of the refusals 4 to 8 that applies.
-fn admit_on(row: Row, record: Record) -> Result<Instruction, Refusal>
-    ensures admits { Admits (Some row) «record» result }
+fn admit_on(candidate: Candidate) -> Result<Instruction, Refusal>
+    ensures admits { Admits (Some candidate.row) candidate.«record» result }
 {
-    if out_of_range(row, record) {
+    if candidate.out_of_range() {
         return Err(Refusal::FieldRange);
     }
-    if condition_forbidden(row, record) {
+    if candidate.condition_forbidden() {
         return Err(Refusal::ConditionForbidden);
     }
-    if unit_forbidden(row, record) {
+    if candidate.unit_forbidden() {
         return Err(Refusal::UnitForbidden);
     }
-    if operand_mismatch(row, record) {
+    if candidate.operand_mismatch() {
         return Err(Refusal::OperandMismatch);
     }
-    if side_or_flag(row, record) {
+    if candidate.side_or_flag() {
         return Err(Refusal::SideOrFlag);
     }
-    Ok(typed(row, record))
+    Ok(Instruction::from(candidate))
 }
 
 // The instruction of a record by a repertoire, or the first of the refusals 3 to 8 that applies.
@@ -61,8 +61,6 @@ pub fn admit<R: Repertoire>(repertoire: &R, record: Record) -> Result<Instructio
     ensures admits { Admits (R.Repertoire.map repertoire.now «record».operation) «record» result }
     ensures lawful { IfOk result (λ i. keeps_rule i.row ≡ true) }
 {
-    match repertoire.row(record.operation) {
-        Some(row) => admit_on(row, record),
-        None => Err(Refusal::NoRow),
-    }
+    let row = repertoire.row(record.operation).ok_or(Refusal::NoRow)?;
+    admit_on(Candidate { row, record })
 }

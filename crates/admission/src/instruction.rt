@@ -1,6 +1,6 @@
 // An instruction: a record that was admitted, by typed fields, with its row. p is not part of it.
-ghost use Rattle.std.specs.Prelude.{◌≡◌, if◌then◌else◌, None};
-ghost use Rattle.std.specs.Option.{option_map};
+ghost use Rattle.std.specs.Prelude.{◌≡◌};
+ghost use Rattle.admission.specs.Landings.{landing};
 ghost use Rattle.admission.specs.Operands.{halves, stored_width, result_width, result_write, base_write, present, reads, read_places, writes, write_places};
 
 use isa::class::Class;
@@ -36,6 +36,47 @@ pub struct Write {
     pub load: bool,
 }
 
+// A register, and a cycle in which a write of it lands.
+#[derive(Clone, Copy, PartialEq, Eq)]
+pub struct Landing {
+    pub register: Register,
+    pub cycle: u64,
+}
+
+impl Write {
+    // The write of a result.
+    fn of_result(class: Class, register: Register) -> Write
+        ensures value { result ≡ result_write class register }
+    {
+        Write {
+            register,
+            delay: class.delay(),
+            load: class == Class::Load,
+        }
+    }
+
+    // The write of an updated base register.
+    fn of_base(register: Register) -> Write
+        ensures value { result ≡ base_write register }
+    {
+        Write {
+            register,
+            delay: 0,
+            load: false,
+        }
+    }
+
+    // Where the write of an instruction that issues in a cycle lands.
+    pub fn landing(self, issue: u32) -> Landing
+        ensures value { result ≡ landing issue self }
+    {
+        Landing {
+            register: self.register,
+            cycle: u64::from(issue) + u64::from(self.delay),
+        }
+    }
+}
+
 // The registers of an operand: the one it names, and the odd one of a pair.
 fn halves(width: Width, register: Option<Register>) -> [Option<Register>; 2]
     ensures value { result ≡ halves width register }
@@ -67,33 +108,6 @@ fn result_width(row: Row) -> Width
     }
 }
 
-// The write of a result.
-fn result_write(class: Class, register: Option<Register>) -> Option<Write>
-    ensures value { result ≡ option_map (result_write class) register }
-{
-    let register = register?;
-    let load = matches!(class, Class::Load);
-    Some(Write {
-        register,
-        delay: class.delay(),
-        load,
-    })
-}
-
-// The write of an updated base register.
-fn base_write(update: bool, register: Option<Register>) -> Option<Write>
-    ensures value { result ≡ (if update then option_map base_write register else None) }
-{
-    match register {
-        Some(register) if update => Some(Write {
-            register,
-            delay: 0,
-            load: false,
-        }),
-        _ => None,
-    }
-}
-
 impl Instruction {
     // Each register that is read, at its own place: two for s1, two for s2, two for a store's dst.
     pub fn reads(self) -> [Option<Register>; 6]
@@ -111,12 +125,13 @@ impl Instruction {
         ensures places { result ≡ write_places self }
         ensures mentions { present result ≡ writes self }
     {
-        let [low, odd] = halves(result_width(self.row), self.dst);
         let class = self.row.class;
+        let [low, odd] = halves(result_width(self.row), self.dst);
+        let base = if self.update { self.s2 } else { None };
         [
-            result_write(class, low),
-            result_write(class, odd),
-            base_write(self.update, self.s2),
+            low.map(|register| Write::of_result(class, register)),
+            odd.map(|register| Write::of_result(class, register)),
+            base.map(Write::of_base),
         ]
     }
 }

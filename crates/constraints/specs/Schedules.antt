@@ -3,7 +3,7 @@
 use Rattle.std.specs.Prelude.{◌≡◌, ℕ, ◌+◌, ◌<◌, ◌≤◌, true, false, List, take, Some, None, sum_by, slice_index_or}
 use Rattle.isa.specs.BuiltIn.{at}
 use Rattle.isa.specs.declared.condition.ConditionRegister.{ConditionRegister}
-use Rattle.isa.specs.declared.condition.ConditionRegister.TheVariants.{B0, B1, B2, A1, A2, A0}
+use Rattle.isa.specs.Conditions.{register_number}
 use Rattle.isa.specs.declared.register.Register.{Register}
 use Rattle.admission.specs.declared.instruction.Instruction.{Instruction}
 use Rattle.admission.specs.declared.instruction.Write.{Write}
@@ -30,15 +30,6 @@ Writes i w = (j : ℕ) × (j < 3) × (slice_index_or (write_places i) j None ≡
 -- that write of some instruction of the schedule lands in cycle c
 abbrev pub Lands : List (List Instruction) → ℕ → Write → Type 0
 Lands ps c w = (k s : ℕ) × (i : Instruction) × Stands ps k s i × Writes i w × (c ≡ issue ps k + w.delay)
-
--- the register that a condition tests
-abbrev pub register_number : ConditionRegister → ℕ
-register_number B0 = 32
-register_number B1 = 33
-register_number B2 = 34
-register_number A1 = 1
-register_number A2 = 2
-register_number A0 = 0
 
 -- the register is the condition register of place i in valuations
 abbrev pub Tested : Register → ℕ → Type 0

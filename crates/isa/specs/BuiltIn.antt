@@ -1,5 +1,6 @@
 -- The built-in rows, by operation number.
-use Rattle.std.specs.Prelude.{ℕ, zero, suc, Bool, true, false, List, [], ◌∷◌, Some, None, Option}
+use Rattle.std.specs.Prelude.{ℕ, Bool, true, false, List, [], ◌∷◌, Option}
+use Rattle.std.specs.List.{slice_get}
 use Rattle.isa.specs.declared.class.Class.{Class}
 use Rattle.isa.specs.declared.class.Class.TheVariants.{Nop, SingleCycle, TwoCycle, FourCycle, Load, Store}
 use Rattle.isa.specs.declared.width.Width.{Width}
@@ -53,12 +54,6 @@ built_in =
     ∷ row TwoCycle m false Single Single Single  -- 21 AVGU4
     ∷ []
 
--- what stands at a place of a list, or none
-abbrev pub at : {X : Type 0} → List X → ℕ → Option X
-at [] n = None
-at (x ∷ xs) zero = Some x
-at (x ∷ xs) (suc n) = at xs n
-
 -- the row of operation n is the one at place n
 abbrev pub built_in_map : ℕ → Option Row
-built_in_map n = at built_in n
+built_in_map n = slice_get built_in n

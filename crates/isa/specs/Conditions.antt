@@ -17,3 +17,12 @@ tested z r = cond (z == 1) (Zero r) (Nonzero r)
 -- the condition of a byte: 0 always holds, and 1, 14 and above name none
 abbrev pub condition_of : ℕ → Option Condition
 condition_of c = cond (c == 0) (Some Always) (option_map (tested (c % 2)) (creg_of (c / 2)))
+
+-- the number of the register that a condition tests
+abbrev pub register_number : ConditionRegister → ℕ
+register_number B0 = 32
+register_number B1 = 33
+register_number B2 = 34
+register_number A1 = 1
+register_number A2 = 2
+register_number A0 = 0

@@ -127,11 +127,6 @@ impl Repertoire for BuiltIn {
     ghost lawful = { λ _. built_in_lawful };
 
     fn row(&self, operation: u8) -> Option<Row> {
-        let place = usize::from(operation);
-        if place < ROWS.len() {
-            Some(ROWS[place])
-        } else {
-            None
-        }
+        ROWS.get(usize::from(operation)).copied()
     }
 }

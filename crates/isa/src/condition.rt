@@ -1,8 +1,11 @@
 // Conditions: which of the six condition registers is tested, and for what.
 ghost use Rattle.std.specs.Prelude.{◌≡◌};
+ghost use Rattle.std.specs.Option.{ok_or};
 ghost use Rattle.isa.specs.Conditions.{creg_of, condition_of};
 
-#[derive(Clone, Copy)]
+use crate::unknown::UnknownByte;
+
+#[derive(Clone, Copy, Debug, PartialEq, Eq)]
 pub enum ConditionRegister {
     B0,
     B1,
@@ -12,43 +15,61 @@ pub enum ConditionRegister {
     A0,
 }
 
-#[derive(Clone, Copy)]
+impl ConditionRegister {
+    // Each of them, by its place in valuations.
+    pub const ALL: [ConditionRegister; 6] = [
+        ConditionRegister::B0,
+        ConditionRegister::B1,
+        ConditionRegister::B2,
+        ConditionRegister::A1,
+        ConditionRegister::A2,
+        ConditionRegister::A0,
+    ];
+}
+
+#[derive(Clone, Copy, Debug, PartialEq, Eq)]
 pub enum Condition {
     Always,
     Nonzero(ConditionRegister),
     Zero(ConditionRegister),
 }
 
-impl ConditionRegister {
-    // The condition register of a creg from 1 to 6.
-    fn from_creg(creg: u8) -> Option<ConditionRegister>
-        ensures value { result ≡ creg_of creg }
-    {
+// The condition register of a creg from 1 to 6.
+impl TryFrom<u8> for ConditionRegister {
+    type Error = UnknownByte;
+
+    ghost try_from_gives = { λ creg r. r ≡ ok_or (creg_of creg) (record { 0 = creg }) };
+
+    fn try_from(creg: u8) -> Result<ConditionRegister, UnknownByte> {
         match creg {
-            1 => Some(ConditionRegister::B0),
-            2 => Some(ConditionRegister::B1),
-            3 => Some(ConditionRegister::B2),
-            4 => Some(ConditionRegister::A1),
-            5 => Some(ConditionRegister::A2),
-            6 => Some(ConditionRegister::A0),
-            _ => None,
+            1 => Ok(ConditionRegister::B0),
+            2 => Ok(ConditionRegister::B1),
+            3 => Ok(ConditionRegister::B2),
+            4 => Ok(ConditionRegister::A1),
+            5 => Ok(ConditionRegister::A2),
+            6 => Ok(ConditionRegister::A0),
+            _ => Err(UnknownByte(creg)),
         }
     }
 }
 
-impl Condition {
-    // The condition of a byte, 2 * creg + z.
-    pub fn from_byte(byte: u8) -> Option<Condition>
-        ensures value { result ≡ condition_of byte }
-    {
+// The condition of a byte, 2 * creg + z.
+impl TryFrom<u8> for Condition {
+    type Error = UnknownByte;
+
+    ghost try_from_gives = { λ byte r. r ≡ ok_or (condition_of byte) (record { 0 = byte }) };
+
+    fn try_from(byte: u8) -> Result<Condition, UnknownByte> {
         if byte == 0 {
-            return Some(Condition::Always);
+            return Ok(Condition::Always);
         }
-        let register = ConditionRegister::from_creg(byte / 2)?;
+        let Ok(register) = ConditionRegister::try_from(byte / 2) else {
+            return Err(UnknownByte(byte));
+        };
         if byte % 2 == 1 {
-            Some(Condition::Zero(register))
+            Ok(Condition::Zero(register))
         } else {
-            Some(Condition::Nonzero(register))
+            Ok(Condition::Nonzero(register))
         }
     }
 }

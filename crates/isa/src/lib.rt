@@ -10,4 +10,5 @@ pub mod register;
 pub mod repertoire;
 pub mod row;
 pub mod unit;
+pub mod unknown;
 pub mod width;

@@ -19,7 +19,7 @@ pub struct Record {
 }
 
 // The flags of a record.
-#[derive(Clone, Copy)]
+#[derive(Clone, Copy, Debug, PartialEq, Eq)]
 pub struct Flags {
     // the next record belongs to the same packet
     pub p: bool,
@@ -31,64 +31,62 @@ pub struct Flags {
     pub u: bool,
 }
 
+impl From<u8> for Flags {
+    ghost from_gives = { λ byte f. f ≡ flags_of byte };
+
+    fn from(byte: u8) -> Flags {
+        Flags {
+            p: byte % 2 == 1,
+            x: (byte >> 1) % 2 == 1,
+            t: (byte >> 2) % 2 == 1,
+            u: (byte >> 3) % 2 == 1,
+        }
+    }
+}
+
+impl From<[u8; 8]> for Record {
+    ghost from_gives = { λ body s. body ≡ bytes s };
+
+    fn from(body: [u8; 8]) -> Record {
+        let [operation, unit, flags, condition, s1, s2, dst, count] = body;
+        Record {
+            operation,
+            unit,
+            flags,
+            condition,
+            s1,
+            s2,
+            dst,
+            count,
+        }
+    }
+}
+
+// The bytes that a record is read from.
+impl From<Record> for [u8; 8] {
+    ghost from_gives = { λ s body. body ≡ bytes s };
+
+    fn from(record: Record) -> [u8; 8] {
+        [
+            record.operation,
+            record.unit,
+            record.flags,
+            record.condition,
+            record.s1,
+            record.s2,
+            record.dst,
+            record.count,
+        ]
+    }
+}
+
 impl Record {
     // The record at the front of a body, and the bytes after it.
     pub fn read(body: &[u8]) -> Result<(Record, &[u8]), Refusal>
         ensures cases { MatchResult result (λ p. bytes p.0 ++ p.1.now ≡ body.now) (λ e. (e ≡ BlockLayout) × (length body.now < 8)) }
         ensures reads_back { (s : Record) (rest : List ℕ) → body.now ≡ bytes s ++ rest → MatchResult result (λ p. (p.0 ≡ s) × (p.1.now ≡ rest)) (λ _. ⊥) }
     {
-        match body {
-            [
-                operation,
-                unit,
-                flags,
-                condition,
-                s1,
-                s2,
-                dst,
-                count,
-                rest @ ..,
-            ] => {
-                let record = Record {
-                    operation: *operation,
-                    unit: *unit,
-                    flags: *flags,
-                    condition: *condition,
-                    s1: *s1,
-                    s2: *s2,
-                    dst: *dst,
-                    count: *count,
-                };
-                Ok((record, rest))
-            }
-            _ => Err(Refusal::BlockLayout),
-        }
-    }
-
-    // The bytes that the record is read from.
-    pub fn to_bytes(self) -> [u8; 8]
-        ensures value { result ≡ bytes self }
-    {
-        [
-            self.operation,
-            self.unit,
-            self.flags,
-            self.condition,
-            self.s1,
-            self.s2,
-            self.dst,
-            self.count,
-        ]
-    }
-
-    pub fn marks(self) -> Flags
-        ensures value { result ≡ flags_of self.flags }
-    {
-        Flags {
-            p: self.flags % 2 == 1,
-            x: (self.flags >> 1) % 2 == 1,
-            t: (self.flags >> 2) % 2 == 1,
-            u: (self.flags >> 3) % 2 == 1,
-        }
+        let (front, rest) = body.split_first_chunk().ok_or(Refusal::BlockLayout)?;
+        Ok((Record::from(*front), rest))
     }
 }

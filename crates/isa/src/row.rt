@@ -6,7 +6,7 @@ use crate::class::Class;
 use crate::unit::Units;
 use crate::width::Width;
 
-#[derive(Clone, Copy)]
+#[derive(Clone, Copy, Debug, PartialEq, Eq)]
 pub struct Row {
     pub class: Class,
     pub units: Units,
@@ -24,15 +24,17 @@ impl Row {
             Class::Load | Class::Store if self.units.permit_other_than_d() => false,
             Class::Load | Class::Store => {
                 self.units.permit_some()
-                    && self.s1.is_single()
-                    && self.s2.is_single()
-                    && !self.dst.is_absent()
+                    && self.s1 == Width::Single
+                    && self.s2 == Width::Single
+                    && self.dst != Width::Absent
             }
             _ if self.nonaligned => false,
             Class::Nop if self.units.permit_some() => false,
-            Class::Nop => self.s1.is_absent() && self.s2.is_absent() && self.dst.is_absent(),
+            Class::Nop => self.s1 == Width::Absent
+                && self.s2 == Width::Absent
+                && self.dst == Width::Absent,
             Class::SingleCycle | Class::TwoCycle | Class::FourCycle => {
-                self.units.permit_some() && !self.s2.is_absent() && !self.dst.is_absent()
+                self.units.permit_some() && self.s2 != Width::Absent && self.dst != Width::Absent
             }
         }
     }

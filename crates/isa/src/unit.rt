@@ -1,14 +1,17 @@
 // The two sides of the data path, and the four functional units of each.
 ghost use Rattle.std.specs.Prelude.{◌≡◌};
+ghost use Rattle.std.specs.Option.{ok_or};
 ghost use Rattle.isa.specs.Units.{opposite, place, unit_of, permitted, permitted_kind, some_unit, other_than_d};
 
-#[derive(Clone, Copy, PartialEq, Eq)]
+use crate::unknown::UnknownByte;
+
+#[derive(Clone, Copy, Debug, PartialEq, Eq)]
 pub enum Side {
     A,
     B,
 }
 
-#[derive(Clone, Copy, PartialEq, Eq)]
+#[derive(Clone, Copy, Debug, PartialEq, Eq)]
 pub enum UnitKind {
     L,
     S,
@@ -16,14 +19,14 @@ pub enum UnitKind {
     D,
 }
 
-#[derive(Clone, Copy, PartialEq, Eq)]
+#[derive(Clone, Copy, Debug, PartialEq, Eq)]
 pub struct FunctionalUnit {
     pub kind: UnitKind,
     pub side: Side,
 }
 
 // The units that an operation may name: unit u, counted from 1, is bit u - 1 of the mask.
-#[derive(Clone, Copy)]
+#[derive(Clone, Copy, Debug, PartialEq, Eq)]
 pub struct Units {
     pub mask: u8,
 }
@@ -39,22 +42,26 @@ impl Side {
     }
 }
 
-impl FunctionalUnit {
-    // The unit of a number from 1 to 8; 0 is no unit.
-    pub fn from_byte(byte: u8) -> Option<FunctionalUnit>
-        ensures value { result ≡ unit_of byte }
-    {
+// The unit of a number from 1 to 8; 0 is no unit.
+impl TryFrom<u8> for FunctionalUnit {
+    type Error = UnknownByte;
+
+    ghost try_from_gives = { λ byte r. r ≡ ok_or (unit_of byte) (record { 0 = byte }) };
+
+    fn try_from(byte: u8) -> Result<FunctionalUnit, UnknownByte> {
         let kind = match byte {
             1 | 5 => UnitKind::L,
             2 | 6 => UnitKind::S,
             3 | 7 => UnitKind::M,
             4 | 8 => UnitKind::D,
-            _ => return None,
+            _ => return Err(UnknownByte(byte)),
         };
         let side = if byte < 5 { Side::A } else { Side::B };
-        Some(FunctionalUnit { kind, side })
+        Ok(FunctionalUnit { kind, side })
     }
+}
 
+impl FunctionalUnit {
     // The bit of the unit in a mask.
     fn place(self) -> u8
         ensures value { result ≡ place self }

@@ -1,36 +1,28 @@
 // How many registers an operand covers.
-ghost use Rattle.std.specs.Prelude.{◌≡◌, if◌then◌else◌, Some, None, nat_le};
-ghost use Rattle.isa.specs.Widths.{width_of, is_absent, is_single};
+ghost use Rattle.std.specs.Prelude.{◌≡◌, if◌then◌else◌, Ok, Err, nat_le};
+ghost use Rattle.isa.specs.Widths.{width_of};
 
-#[derive(Clone, Copy)]
+use crate::unknown::UnknownByte;
+
+#[derive(Clone, Copy, Debug, PartialEq, Eq)]
 pub enum Width {
     Absent,
     Single,
     Pair,
 }
 
-impl Width {
-    // The width that a byte of a row file names.
-    pub fn from_byte(byte: u8) -> Option<Width>
-        ensures value { result ≡ (if nat_le byte 2 then Some (width_of byte) else None) }
-    {
+// The width that a byte of a row file names.
+impl TryFrom<u8> for Width {
+    type Error = UnknownByte;
+
+    ghost try_from_gives = { λ byte r. r ≡ (if nat_le byte 2 then Ok (width_of byte) else Err (record { 0 = byte })) };
+
+    fn try_from(byte: u8) -> Result<Width, UnknownByte> {
         match byte {
-            0 => Some(Width::Absent),
-            1 => Some(Width::Single),
-            2 => Some(Width::Pair),
-            _ => None,
+            0 => Ok(Width::Absent),
+            1 => Ok(Width::Single),
+            2 => Ok(Width::Pair),
+            _ => Err(UnknownByte(byte)),
         }
-    }
-
-    pub(crate) fn is_absent(self) -> bool
-        ensures value { result ≡ is_absent self }
-    {
-        matches!(self, Width::Absent)
-    }
-
-    pub(crate) fn is_single(self) -> bool
-        ensures value { result ≡ is_single self }
-    {
-        matches!(self, Width::Single)
     }
 }

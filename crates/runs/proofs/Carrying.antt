@@ -1,18 +1,18 @@
 -- The set that goes with a write: its start, one packet more, and the test whether some run performs two writes.
 -- Assumes nothing.
-use Rattle.std.proofs.Common.{◌≡◌, ℕ, ◌+◌, ◌<◌, ◌≤◌, cond, ltb, List, [], ◌∷◌, ◌++◌, length, get_or, sym, refl, ap, ◌∙◌, subst, inl, inr, ⊎_elim, arith}
+use Rattle.std.proofs.Common.{◌≡◌, ℕ, ◌+◌, ◌<◌, ◌≤◌, cond, ltb, List, [], ◌∷◌, ◌++◌, length, get_or, sym, refl, ap, ◌∙◌, subst, inl, inr, ⊎_elim, arith, ◌↔◌}
 use Rattle.std.proofs.lemmas.List.{get_or_push, get_or_append_left}
 use Rattle.std.proofs.lemmas.Bool.{cases_lt, cases_eq, lt-ltb, le-ltb, cond-true, cond-false}
 use Rattle.isa.specs.declared.condition.Condition.{Condition}
 use Rattle.isa.specs.Bits.{bit}
 use Rattle.runs.specs.declared.valuations.Valuations.{Valuations}
 use Rattle.runs.specs.declared.valuations.Changes.{Changes}
-use Rattle.runs.specs.Valuations.{Iff, Meets, Has, MayChange, After}
+use Rattle.runs.specs.Valuations.{Meets, Has, MayChange, After}
 use Rattle.runs.specs.Runs.{Run, Ends, Both, Carries, Reaches, none, MayOf}
 
 -- the set is just what two sets share
 abbrev pub Shared : Valuations → Valuations → Valuations → Type 0
-Shared r s t = (v : ℕ) → Iff (Has r v) (Has s v × Has t v)
+Shared r s t = (v : ℕ) → Has r v ↔ (Has s v × Has t v)
 
 -- a run up to n, and then v
 abbrev then : (ℕ → ℕ) → ℕ → ℕ → ℕ → ℕ
@@ -56,7 +56,7 @@ module _ (lawful start : Valuations) (may : ℕ → ℕ → Type 0) where
   )
 
   -- a write of packet n under c, of what can be reached there
-  pub carries_start : (n : ℕ) (c : Condition) (reach s r : Valuations) → ((v : ℕ) → v < 64 → Iff (Has s v) (Meets c v)) → Shared r reach s
+  pub carries_start : (n : ℕ) (c : Condition) (reach s r : Valuations) → ((v : ℕ) → v < 64 → Has s v ↔ Meets c v) → Shared r reach s
       → Reaches lawful start may n reach → Carries lawful start may n n c r
   carries_start n c reach s r sat shared reached v hv = (
     λ h. let (l, m) = (shared v).0 h in
@@ -66,8 +66,8 @@ module _ (lawful start : Valuations) (may : ℕ → ℕ → Type 0) where
   )
 
   -- one packet more, with the registers that may change
-  pub carries_more : (n j : ℕ) (c : Condition) (set r : Valuations) (m : Changes) → j ≤ n → ((i : ℕ) → i < 6 → Iff (MayChange m i) (may n i))
-      → ((w : ℕ) → w < 64 → Iff (Has r w) (Has lawful w × After set m w))
+  pub carries_more : (n j : ℕ) (c : Condition) (set r : Valuations) (m : Changes) → j ≤ n → ((i : ℕ) → i < 6 → MayChange m i ↔ may n i)
+      → ((w : ℕ) → w < 64 → Has r w ↔ (Has lawful w × After set m w))
       → Carries lawful start may n j c set → Carries lawful start may (n + 1) j c r
   carries_more n j c set r m hj masked stepped held w hw = (there, back)
     where
@@ -128,7 +128,7 @@ carries_like lawful start n may may' j c set f g held v hv = (
 
 -- with what may change after the last packet put at the end of the list
 pub carries_push : (lawful start : Valuations) (ms : List Changes) (j : ℕ) (c : Condition) (set r : Valuations) (m : Changes) → j ≤ length ms
-    → ((w : ℕ) → w < 64 → Iff (Has r w) (Has lawful w × After set m w))
+    → ((w : ℕ) → w < 64 → Has r w ↔ (Has lawful w × After set m w))
     → Carries lawful start (MayOf ms) (length ms) j c set → Carries lawful start (MayOf (ms ++ m ∷ [])) (length ms + 1) j c r
 carries_push lawful start ms j c set r m hj stepped held =
     let last : get_or (ms ++ m ∷ []) (length ms) none ≡ m = get_or_push ms m none (length ms) refl in

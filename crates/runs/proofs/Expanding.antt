@@ -1,9 +1,11 @@
 -- One register after the other: what the loop of `expand` keeps, and each of its turns.
 -- Assumes nothing.
-use Rattle.std.proofs.Common.{◌≡◌, ℕ, ◌+◌, ◌-◌, ◌<◌, max, cond, eqb, ltb, ◌⊎◌, sym, refl, ap, ◌∙◌, subst, inl, inr, ⊎_elim, arith, eqb→eq, ltb→lt}
+use Rattle.std.proofs.Common.{◌≡◌, ℕ, zero, suc, [], ◌∷◌, get_or, ◌+◌, ◌-◌, ◌<◌, max, cond, eqb, ltb, ◌⊎◌, sym, refl, ap, ◌∙◌, subst, inl, inr, ⊎_elim, arith, eqb→eq, ltb→lt, ◌↔◌}
 use Rattle.std.proofs.lemmas.Bool.{cases_eq, ne_eqb, eq-eqb, cond-true, cond-false}
 use Rattle.isa.specs.Bits.{bit}
-use Rattle.runs.specs.Valuations.{Iff, After}
+use Rattle.isa.specs.declared.condition.ConditionRegister.{ConditionRegister}
+use Rattle.isa.specs.declared.condition.ConditionRegister.TheVariants.{B0, B1, B2, A1, A2, A0}
+use Rattle.runs.specs.Valuations.{place, After}
 use Rattle.runs.proofs.Sets.{flip, zero_or_one}
 use Rattle.runs.proofs.Table.{at2, at3}
 
@@ -34,7 +36,7 @@ abbrev pub AfterTo : ℕ → ℕ → ℕ → ℕ → Type 0
 AfterTo i set m w = (v : ℕ) × (v < 64) × (bit set v ≡ 1) × (FollowsTo i m v w)
 
 abbrev pub Expanded : ℕ → ℕ → ℕ → ℕ → Type 0
-Expanded i set m r = (w : ℕ) → w < 64 → Iff (bit r w ≡ 1) (AfterTo i set m w)
+Expanded i set m r = (w : ℕ) → w < 64 → (bit r w ≡ 1) ↔ AfterTo i set m w
 
 pub expanded_none : (set m : ℕ) → Expanded 0 set m set
 expanded_none set m w hw = (
@@ -43,7 +45,7 @@ expanded_none set m w hw = (
       (same_bits a.0 w a.1 hw (λ k hk. ⊎_elim (λ p. absurd (omega (arith, p.0))) (λ e. e) (a.3 k hk))) a.2,
 )
 
-pub expanded_all : (set m r : ℕ) → Expanded 6 set m r → (w : ℕ) → w < 64 → Iff (bit r w ≡ 1) (After (record { bits = set }) (record { mask = m }) w)
+pub expanded_all : (set m r : ℕ) → Expanded 6 set m r → (w : ℕ) → w < 64 → (bit r w ≡ 1) ↔ After (record { bits = set }) (record { mask = m }) w
 expanded_all set m r x w hw = (
   λ h. let a = (x w hw).0 h in (a.0, a.1, a.2, λ k hk. ⊎_elim (λ p. inl p.1) inr (a.3 k hk)),
   λ a. (x w hw).1 (a.0, a.1, a.2, λ k hk. ⊎_elim (λ e. inl (hk, e)) inr (a.3 k hk)),
@@ -93,3 +95,20 @@ expanded_more i set m r r' hi on joined x w hw = (back, forth)
     forth a =
         ⊎_elim (λ e. omega (arith, joined w hw, (x w hw).1 (a.0, a.1, a.2, stays a.0 e a.3)))
         (λ ne. omega (arith, joined w hw, (x (flip w i) hf).1 (a.0, a.1, a.2, turns a.0 ne a.3))) (cases_eq (bit a.0 i) (bit w i))
+
+-- the registers stand by their places
+pub place_at : (k : ℕ) (d : ConditionRegister) → k < 6 → place (get_or (B0 ∷ B1 ∷ B2 ∷ A1 ∷ A2 ∷ A0 ∷ []) k d) ≡ k
+place_at zero d h = refl
+place_at (suc zero) d h = refl
+place_at (suc (suc zero)) d h = refl
+place_at (suc (suc (suc zero))) d h = refl
+place_at (suc (suc (suc (suc zero)))) d h = refl
+place_at (suc (suc (suc (suc (suc zero))))) d h = refl
+place_at (suc (suc (suc (suc (suc (suc k)))))) d h = absurd (omega arith)
+
+-- one register more, which may change
+pub expanded_turn : (i p set m r r' : ℕ) → p ≡ i → i < 6 → bit m p ≡ 1 → ((v : ℕ) → v < 64 → bit r' v ≡ max (bit r v) (bit r (flip v p)))
+    → Expanded i set m r → Expanded (i + 1) set m r'
+expanded_turn i p set m r r' e hi on joined before =
+    let (now, both) = subst (λ q. (bit m q ≡ 1) × ((v : ℕ) → v < 64 → bit r' v ≡ max (bit r v) (bit r (flip v q)))) e (on, joined) in
+    expanded_more i set m r r' hi now both before

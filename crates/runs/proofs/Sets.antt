@@ -1,12 +1,15 @@
 -- Sets of valuations as numbers: what the operations do to each bit.
 -- Assumes nothing.
-use Rattle.std.proofs.Common.{◌≡◌, ℕ, zero, suc, ◌+◌, ◌-◌, ◌*◌, ◌/◌, ◌%◌, ◌^◌, ◌<◌, ◌≤◌, min, max, eqb, ◌⊎◌, List, [], ◌∷◌, get_or, sym, ap, ◌∙◌, ap₂, inl, inr, ⊎_elim, pow-suc, arith, eqb→eq, pow_mono, shr-shr}
+use Rattle.std.proofs.Common.{◌≡◌, ℕ, zero, suc, ◌+◌, ◌-◌, ◌*◌, ◌/◌, ◌%◌, ◌^◌, ◌<◌, ◌≤◌, ◌↔◌, min, max, cond, eqb, ◌⊎◌, List, [], ◌∷◌, get_or, sym, ap, ◌∙◌, ap₂, inl, inr, ⊎_elim, pow-suc, arith, eqb→eq, pow_mono, shr-shr, lit<}
 use native.Mathlib.Nat.{div-eq_of_lt}
 use lib.Arith.{digits_mod}
 use lib.Bits.{bit_and, bit_or, bit_xor, and_step, or_step, and_shr, or_shr}
 use lib.Pow.{shl-shr, field, mod-mod-pow}
-use Rattle.std.proofs.lemmas.Bool.{cases_eq}
+use Rattle.std.proofs.lemmas.Bool.{cases_eq, ne_eqb, eq-eqb, cond-true, cond-false}
 use Rattle.isa.specs.Bits.{bit}
+use Rattle.isa.specs.declared.condition.ConditionRegister.{ConditionRegister}
+use Rattle.isa.specs.declared.condition.ConditionRegister.TheVariants.{B0, B1, B2, A1, A2, A0}
+use Rattle.runs.specs.Valuations.{place}
 use Rattle.runs.proofs.Table.{at, at2}
 
 pub bit_lt : (n k : ℕ) → bit n k < 2
@@ -116,3 +119,28 @@ no_bit v h = absurd (omega (arith, zero_bit v))
   where
     zero_bit : (v : ℕ) → bit 0 v ≡ 0
     zero_bit v = bit_past 0 0 v (omega arith) (omega arith)
+
+pub place_lt : (r : ConditionRegister) → place r < 6
+place_lt B0 = lit< tt
+place_lt B1 = lit< tt
+place_lt B2 = lit< tt
+place_lt A1 = lit< tt
+place_lt A2 = lit< tt
+place_lt A0 = lit< tt
+
+-- the mask of one place has just that bit
+pub one_bit : (p i : ℕ) → p < 6 → i < 6 → (bit (1 * 2 ^ p % 256) i ≡ 1) ↔ (p ≡ i)
+one_bit p i hp hi =
+    let e = eqb→eq (bit (1 * 2 ^ p % 256) i) (cond (eqb p i) 1 0) (at2 (λ q k. eqb (bit (1 * 2 ^ q % 256) k) (cond (eqb q k) 1 0)) 6 6 tt p i hp hi) in (
+      λ h. ⊎_elim (λ same. same) (λ apart. absurd (omega (arith, e ∙ cond-false (eqb p i) 1 0 (ne_eqb p i apart), h))) (cases_eq p i),
+      λ same. e ∙ cond-true (eqb p i) 1 0 (eq-eqb p i same),
+    )
+
+-- a bit of two masks joined
+pub or_either : (a b i : ℕ) {P Q : Type 0} → (bit a i ≡ 1) ↔ P → (bit b i ≡ 1) ↔ Q → (bit (bit_or a b) i ≡ 1) ↔ (P ⊎ Q)
+or_either a b i (p, back_p) (q, back_q) =
+    let e = bit-bit_or a b i in (
+      λ h. ⊎_elim (λ zero_a. ⊎_elim (λ zero_b. absurd (omega arith)) (λ one_b. inr (q one_b)) (zero_or_one b i)) (λ one_a. inl (p one_a)) (zero_or_one a i),
+      ⊎_elim (λ x. let one_a = back_p x in ⊎_elim (λ zero_b. omega arith) (λ one_b. omega arith) (zero_or_one b i))
+          (λ y. let one_b = back_q y in ⊎_elim (λ zero_a. omega arith) (λ one_a. omega arith) (zero_or_one a i)),
+    )

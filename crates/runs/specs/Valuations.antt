@@ -9,10 +9,6 @@ use Rattle.isa.specs.Bits.{bit}
 use Rattle.runs.specs.declared.valuations.Valuations.{Valuations}
 use Rattle.runs.specs.declared.valuations.Changes.{Changes}
 
--- each follows from the other
-abbrev pub Iff : Type 0 → Type 0 → Type 0
-Iff P Q = (P → Q) × (Q → P)
-
 -- the bit of a condition register in a valuation
 abbrev pub place : ConditionRegister → ℕ
 place B0 = 0

@@ -1,11 +1,11 @@
 // Sets of valuations, and the steps of a set from packet to packet.
-ghost use Rattle.std.specs.Prelude.{◌≡◌, ℕ, ◌+◌, ◌^◌, ◌<◌, ◌≤◌, max, List, [], ◌∷◌, ◌++◌, length, Decides, bit_xor};
+ghost use Rattle.std.specs.Prelude.{◌≡◌, ℕ, ◌+◌, ◌^◌, ◌<◌, ◌≤◌, ◌⊎◌, max, List, [], ◌∷◌, ◌++◌, length, bit_xor, ◌↔◌, IsTrue};
 ghost use Rattle.isa.specs.Bits.{bit};
 ghost use Rattle.isa.specs.declared.condition.Condition.{Condition};
 ghost use Rattle.runs.specs.declared.valuations.Valuations.{Valuations};
 ghost use Rattle.runs.specs.declared.valuations.Changes.{Changes};
 ghost use Rattle.runs.specs.Runs.{Both, Carries, Reaches, MayOf};
-ghost use Rattle.runs.specs.Valuations.{Iff, place, Meets, Has, After};
+ghost use Rattle.runs.specs.Valuations.{place, Meets, Has, MayChange, After};
 
 use isa::condition::{Condition, ConditionRegister};
 
@@ -15,7 +15,7 @@ pub struct Valuations {
     pub bits: u64,
 }
 
-// The condition registers that may change: bit creg - 1 of the mask.
+// The condition registers that may change: each by the bit of its place.
 #[derive(Clone, Copy, PartialEq, Eq)]
 pub struct Changes {
     pub mask: u8,
@@ -31,7 +31,8 @@ const NONZERO: [u64; 6] = [
     0xffff_ffff_0000_0000,
 ];
 
-fn place_of(register: ConditionRegister) -> usize
+// The place of a condition register in valuations.
+fn place(register: ConditionRegister) -> usize
     ensures value { result ≡ place register }
 {
     match register {
@@ -44,25 +45,51 @@ fn place_of(register: ConditionRegister) -> usize
     }
 }
 
+impl Changes {
+    // No register may change.
+    pub const NONE: Changes = Changes { mask: 0 };
+
+    // One register may change.
+    pub fn of(register: ConditionRegister) -> Changes
+        ensures members { (i : ℕ) → i < 6 → MayChange result i ↔ (place register ≡ i) }
+    {
+        Changes {
+            mask: 1 << place(register),
+        }
+    }
+
+    // The registers of both may change.
+    pub fn union(self, other: Changes) -> Changes
+        ensures members { (i : ℕ) → MayChange result i ↔ (MayChange self i ⊎ MayChange other i) }
+    {
+        Changes {
+            mask: self.mask | other.mask,
+        }
+    }
+
+    fn contain(self, register: ConditionRegister) -> bool
+        ensures decides { IsTrue result ↔ MayChange self (place register) }
+    {
+        (self.mask >> place(register)) % 2 == 1
+    }
+}
+
 impl Valuations {
     // The valuations in which a condition holds.
     pub fn meeting(condition: Condition) -> Valuations
-        ensures members { (v : ℕ) → v < 64 → Iff (Has result v) (Meets condition v) }
+        ensures members { (v : ℕ) → v < 64 → Has result v ↔ Meets condition v }
     {
-        match condition {
-            Condition::Always => Valuations { bits: u64::MAX },
-            Condition::Nonzero(register) => Valuations {
-                bits: NONZERO[place_of(register)],
-            },
-            Condition::Zero(register) => Valuations {
-                bits: !NONZERO[place_of(register)],
-            },
-        }
+        let bits = match condition {
+            Condition::Always => u64::MAX,
+            Condition::Nonzero(register) => NONZERO[place(register)],
+            Condition::Zero(register) => !NONZERO[place(register)],
+        };
+        Valuations { bits }
     }
 
     // The valuations that are in both sets.
     pub fn common(self, other: Valuations) -> Valuations
-        ensures members { (v : ℕ) → Iff (Has result v) (Has self v × Has other v) }
+        ensures members { (v : ℕ) → Has result v ↔ (Has self v × Has other v) }
     {
         Valuations {
             bits: self.bits & other.bits,
@@ -71,7 +98,7 @@ impl Valuations {
 
     // The valuations of the first packet: the lawful ones of those at the start.
     pub fn at_start(lawful: Valuations, start: Valuations) -> Valuations
-        ensures members { (v : ℕ) → Iff (Has result v) (Has lawful v × Has start v) }
+        ensures members { (v : ℕ) → Has result v ↔ (Has lawful v × Has start v) }
         ensures reaches { Reaches lawful start (MayOf []) 0 result }
     {
         lawful.common(start)
@@ -79,7 +106,7 @@ impl Valuations {
 
     // Of the valuations that runs can have in a packet, those in which its writes under a condition are performed.
     pub fn performing(self, condition: Condition) -> Valuations
-        ensures members { (v : ℕ) → v < 64 → Iff (Has result v) (Has self v × Meets condition v) }
+        ensures members { (v : ℕ) → v < 64 → Has result v ↔ (Has self v × Meets condition v) }
         ensures carries { (lawful start : Valuations) (ms : List Changes) → Reaches lawful start (MayOf ms) (length ms) self → Carries lawful start (MayOf ms) (length ms) (length ms) condition result }
     {
         self.common(Valuations::meeting(condition))
@@ -87,41 +114,41 @@ impl Valuations {
 
     // Whether some valuation is in both sets.
     pub fn meets(self, other: Valuations) -> bool
-        ensures decides { Decides result ((v : ℕ) × (v < 64) × Has self v × Has other v) }
-        ensures both { (lawful start : Valuations) (ms : List Changes) (j : ℕ) (c d : Condition) → Carries lawful start (MayOf ms) (length ms) j c self → Carries lawful start (MayOf ms) (length ms) (length ms) d other → Decides result (Both lawful start (MayOf ms) (length ms) j c (length ms) d) }
+        ensures decides { IsTrue result ↔ ((v : ℕ) × (v < 64) × Has self v × Has other v) }
+        ensures both { (lawful start : Valuations) (ms : List Changes) (j : ℕ) (c d : Condition) → Carries lawful start (MayOf ms) (length ms) j c self → Carries lawful start (MayOf ms) (length ms) (length ms) d other → IsTrue result ↔ Both lawful start (MayOf ms) (length ms) j c (length ms) d }
     {
         self.bits & other.bits != 0
     }
 
     // The valuations that may follow one of the set, where only some registers may change, within the lawful ones.
     pub fn step(self, lawful: Valuations, changes: Changes) -> Valuations
-        ensures members { (w : ℕ) → w < 64 → Iff (Has result w) (Has lawful w × After self changes w) }
+        ensures members { (w : ℕ) → w < 64 → Has result w ↔ (Has lawful w × After self changes w) }
         ensures carries { (start : Valuations) (ms : List Changes) (j : ℕ) (c : Condition) → j ≤ length ms → Carries lawful start (MayOf ms) (length ms) j c self → Carries lawful start (MayOf (ms ++ changes ∷ [])) (length ms + 1) j c result }
     {
-        Valuations {
-            bits: lawful.bits & expand(self.bits, changes.mask),
-        }
+        lawful.common(expand(self, changes))
     }
 }
 
-// The set with each valuation joined by the one that differs in the register of place i.
-fn spread(set: u64, i: u32) -> u64
-    requires small { i < 6 }
-    ensures bits { (v : ℕ) → v < 64 → bit result v ≡ max (bit set v) (bit set (bit_xor v (2 ^ i))) }
+// The set with each valuation joined by the one that differs in the register.
+fn spread(set: Valuations, register: ConditionRegister) -> Valuations
+    ensures bits { (v : ℕ) → v < 64 → bit result.bits v ≡ max (bit set.bits v) (bit set.bits (bit_xor v (2 ^ place register))) }
 {
-    let high = NONZERO[i as usize];
-    let shift = 1u32 << i;
-    set | ((set & high) >> shift) | ((set << shift) & high)
+    let place = place(register);
+    let high = NONZERO[place];
+    let shift = 1u32 << place;
+    Valuations {
+        bits: set.bits | ((set.bits & high) >> shift) | ((set.bits << shift) & high),
+    }
 }
 
 // The valuations that may follow one of the set, lawful or not: one register after the other.
-fn expand(set: u64, mask: u8) -> u64
-    ensures members { (w : ℕ) → w < 64 → Iff (bit result w ≡ 1) (After (record { bits = set }) (record { mask = mask }) w) }
+fn expand(set: Valuations, changes: Changes) -> Valuations
+    ensures members { (w : ℕ) → w < 64 → Has result w ↔ After set changes w }
 {
     let mut all = set;
-    for i in 0..6 {
-        if (mask >> i) % 2 == 1 {
-            all = spread(all, i);
+    for register in ConditionRegister::ALL {
+        if changes.contain(register) {
+            all = spread(all, register);
         }
     }
     all

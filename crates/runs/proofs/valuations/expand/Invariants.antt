@@ -1,5 +1,5 @@
 use Rattle.runs.proofs.Expanding.{Expanded}
 use Rattle.runs.proofs.valuations.expand.Given as goal
 
-abbrev pub invariant-loop-i : goal.invariant-loop-i
-invariant-loop-i l = Expanded l.i l.set l.mask l.all
+abbrev pub invariant-loop-register : goal.invariant-loop-register
+invariant-loop-register l = Expanded l.register-index l.fn.set.bits l.fn.changes.mask l.all.bits
