@@ -11,13 +11,13 @@ use Rattle.isa.specs.declared.width.Width.{Width}
 use Rattle.isa.specs.declared.width.Width.TheVariants.{Absent, Single, Pair}
 use Rattle.isa.specs.Classes.{delay}
 use Rattle.admission.specs.declared.instruction.Instruction.{Instruction}
-use Rattle.admission.specs.declared.instruction.Write.{Write}
+use Rattle.admission.specs.declared.instruction.Landing.{Landing}
+use Rattle.admission.specs.Landings.{landing}
 use Rattle.admission.specs.Operands.{write_places}
 use Rattle.runs.specs.Valuations.{Has}
 use Rattle.claims.specs.declared.port.PortResult.{PortResult}
 use Rattle.claims.specs.declared.port.PortResult.TheVariants.{OneFourCycle, OneTwoCycle, Other}
 use Rattle.claims.specs.declared.port.PortClaim.{PortClaim}
-use Rattle.claims.specs.declared.write.Landing.{Landing}
 use Rattle.claims.specs.declared.write.WriteClaim.{WriteClaim}
 
 -- the side of a unit, if it is an .M unit
@@ -58,10 +58,6 @@ MayShare p q = ((p ≡ OneFourCycle) × (q ≡ OneTwoCycle)) ⊎ ((p ≡ OneTwoC
 -- both results are of one .M unit, land in one cycle and may not share it
 abbrev pub SamePort : PortClaim → PortClaim → Type 0
 SamePort a b = (s : Side) × (a.side ≡ Some s) × (b.side ≡ Some s) × (a.landing ≡ b.landing) × (MayShare a.result b.result → ⊥)
-
--- a write of an instruction that issues in a cycle, by its register and where it lands
-abbrev pub landing : ℕ → Write → Landing
-landing cycle w = record { register = w.register; cycle = cycle + w.delay }
 
 -- the landings of an instruction, by the places of its writes
 abbrev pub landings : Instruction → ℕ → List (Option Landing)

@@ -1,5 +1,6 @@
 // The kinds of claims that the instructions of one packet make on each other.
-ghost use Rattle.std.specs.Prelude.{◌≡◌};
+ghost use Rattle.std.specs.Prelude.{◌≡◌, ◌↔◌, IsTrue};
+ghost use Rattle.admission.specs.declared.instruction.Instruction.{Instruction};
 ghost use Rattle.isa.specs.Classes.{accesses};
 ghost use Rattle.claims.specs.Kinds.{SameUnit, TwoLongNops, SameDataPath, NonalignedPair, CrossOperands};
 ghost use Rattle.claims.specs.Mutual.{same_unit_mutual, two_long_nops_mutual, same_data_path_mutual, nonaligned_pair_mutual, cross_operands_mutual};
@@ -7,51 +8,99 @@ ghost use Rattle.claims.specs.Mutual.{same_unit_mutual, two_long_nops_mutual, sa
 use crate::claim::Claim;
 use admission::instruction::Instruction;
 use isa::class::Class;
+use std::marker::PhantomData;
 
-// A claim on a functional unit.
+// What the instructions of a packet can get into each other's way at.
+pub trait Kind {
+    // When two instructions clash.
+    ghost meeting: { Instruction → Instruction → Type 0 };
+
+    fn meet(one: &Instruction, other: &Instruction) -> bool
+        ensures { IsTrue result ↔ meeting one.now other.now };
+
+    // Clashing is mutual.
+    ghost both: { (a b : Instruction) → meeting a b → meeting b a };
+}
+
+// The claim of one kind that an instruction makes.
 #[derive(Clone, Copy)]
-pub struct UnitClaim(pub Instruction);
+pub struct InstructionClaim<K> {
+    pub instruction: Instruction,
+    pub kind: PhantomData<K>,
+}
 
-// A claim on the one multicycle NOP of a packet.
-#[derive(Clone, Copy)]
-pub struct NopClaim(pub Instruction);
-
-// A claim on a data path to memory.
-#[derive(Clone, Copy)]
-pub struct DataPathClaim(pub Instruction);
-
-// A claim on memory as a whole, which a nonaligned access needs alone.
-#[derive(Clone, Copy)]
-pub struct AlignmentClaim(pub Instruction);
-
-// A claim on the one operand of a cross path.
-#[derive(Clone, Copy)]
-pub struct CrossPathClaim(pub Instruction);
-
-impl Claim for UnitClaim {
-    ghost clash = { λ a b. SameUnit a.0 b.0 };
-
-    ghost mutual = { λ a b. same_unit_mutual a.0 b.0 };
-
-    fn clashes(&self, other: &UnitClaim) -> bool {
-        match (self.0.unit, other.0.unit) {
-            (Some(unit), Some(others)) => unit == others,
-            _ => false,
+impl<K: Kind> InstructionClaim<K> {
+    pub fn new(instruction: Instruction) -> InstructionClaim<K>
+        ensures value { result.instruction ≡ instruction }
+    {
+        InstructionClaim {
+            instruction,
+            kind: PhantomData,
         }
     }
 }
 
-impl Claim for NopClaim {
-    ghost clash = { λ a b. TwoLongNops a.0 b.0 };
+impl<K: Kind> Claim for InstructionClaim<K> {
+    ghost clash = { λ a b. K.meeting a.instruction b.instruction };
 
-    ghost mutual = { λ a b. two_long_nops_mutual a.0 b.0 };
-
-    fn clashes(&self, other: &NopClaim) -> bool {
-        match (self.0.row.class, other.0.row.class) {
-            (Class::Nop, Class::Nop) => self.0.cycles > 1 && other.0.cycles > 1,
-            _ => false,
-        }
+    fn clashes(&self, other: &InstructionClaim<K>) -> bool {
+        K::meet(&self.instruction, &other.instruction)
     }
+
+    ghost mutual = { λ a b. K.both a.instruction b.instruction };
+}
+
+// The functional unit.
+#[derive(Clone, Copy)]
+pub struct UnitUse;
+
+// The one multicycle NOP of a packet.
+#[derive(Clone, Copy)]
+pub struct LongNop;
+
+// The data path to memory.
+#[derive(Clone, Copy)]
+pub struct DataPathUse;
+
+// Memory as a whole, which a nonaligned access needs alone.
+#[derive(Clone, Copy)]
+pub struct Alignment;
+
+// The one operand of a cross path.
+#[derive(Clone, Copy)]
+pub struct CrossPathUse;
+
+pub type UnitClaim = InstructionClaim<UnitUse>;
+
+pub type NopClaim = InstructionClaim<LongNop>;
+
+pub type DataPathClaim = InstructionClaim<DataPathUse>;
+
+pub type AlignmentClaim = InstructionClaim<Alignment>;
+
+pub type CrossPathClaim = InstructionClaim<CrossPathUse>;
+
+impl Kind for UnitUse {
+    ghost meeting = { SameUnit };
+
+    fn meet(one: &Instruction, other: &Instruction) -> bool {
+        one.unit.is_some() && one.unit == other.unit
+    }
+
+    ghost both = { same_unit_mutual };
+}
+
+impl Kind for LongNop {
+    ghost meeting = { TwoLongNops };
+
+    fn meet(one: &Instruction, other: &Instruction) -> bool {
+        one.row.class == Class::Nop
+            && other.row.class == Class::Nop
+            && one.cycles > 1
+            && other.cycles > 1
+    }
+
+    ghost both = { two_long_nops_mutual };
 }
 
 // Whether an instruction is a load or a store.
@@ -61,44 +110,39 @@ fn accesses_memory(instruction: &Instruction) -> bool
     matches!(instruction.row.class, Class::Load | Class::Store)
 }
 
-impl Claim for DataPathClaim {
-    ghost clash = { λ a b. SameDataPath a.0 b.0 };
+impl Kind for DataPathUse {
+    ghost meeting = { SameDataPath };
 
-    ghost mutual = { λ a b. same_data_path_mutual a.0 b.0 };
-
-    fn clashes(&self, other: &DataPathClaim) -> bool {
-        if !accesses_memory(&self.0) || !accesses_memory(&other.0) {
-            return false;
-        }
-        self.0.path == other.0.path
+    fn meet(one: &Instruction, other: &Instruction) -> bool {
+        accesses_memory(one) && accesses_memory(other) && one.path == other.path
     }
+
+    ghost both = { same_data_path_mutual };
 }
 
-impl Claim for AlignmentClaim {
-    ghost clash = { λ a b. NonalignedPair a.0 b.0 };
+impl Kind for Alignment {
+    ghost meeting = { NonalignedPair };
 
-    ghost mutual = { λ a b. nonaligned_pair_mutual a.0 b.0 };
-
-    fn clashes(&self, other: &AlignmentClaim) -> bool {
-        if !accesses_memory(&self.0) || !accesses_memory(&other.0) {
-            return false;
-        }
-        self.0.row.nonaligned || other.0.row.nonaligned
+    fn meet(one: &Instruction, other: &Instruction) -> bool {
+        accesses_memory(one)
+            && accesses_memory(other)
+            && (one.row.nonaligned || other.row.nonaligned)
     }
+
+    ghost both = { nonaligned_pair_mutual };
 }
 
-impl Claim for CrossPathClaim {
-    ghost clash = { λ a b. CrossOperands a.0 b.0 };
+impl Kind for CrossPathUse {
+    ghost meeting = { CrossOperands };
 
-    ghost mutual = { λ a b. cross_operands_mutual a.0 b.0 };
-
-    fn clashes(&self, other: &CrossPathClaim) -> bool {
-        if !self.0.cross || !other.0.cross {
-            return false;
-        }
-        match (self.0.unit, other.0.unit) {
-            (Some(unit), Some(others)) if unit.side == others.side => self.0.s2 != other.0.s2,
+    fn meet(one: &Instruction, other: &Instruction) -> bool {
+        match (one.unit, other.unit) {
+            (Some(unit), Some(others)) => {
+                unit.side == others.side && one.cross && other.cross && one.s2 != other.s2
+            }
             _ => false,
         }
     }
+
+    ghost both = { cross_operands_mutual };
 }

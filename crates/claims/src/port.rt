@@ -1,5 +1,5 @@
 // The write ports of the .M units.
-ghost use Rattle.std.specs.Prelude.{◌≡◌, Decides};
+ghost use Rattle.std.specs.Prelude.{◌≡◌, ◌↔◌, IsTrue};
 ghost use Rattle.claims.specs.Landings.{port_side, port_result, port_claim, MayShare, SamePort};
 ghost use Rattle.claims.specs.Mutual.{same_port_mutual};
 
@@ -29,11 +29,8 @@ pub struct PortClaim {
 fn port_side(unit: Option<FunctionalUnit>) -> Option<Side>
     ensures value { result ≡ port_side unit }
 {
-    let unit = unit?;
-    match unit.kind {
-        UnitKind::M => Some(unit.side),
-        _ => None,
-    }
+    unit.filter(|unit| unit.kind == UnitKind::M)
+        .map(|unit| unit.side)
 }
 
 fn port_result(row: Row) -> PortResult
@@ -53,35 +50,32 @@ impl PortClaim {
     {
         PortClaim {
             side: port_side(instruction.unit),
-            landing: issue as u64 + instruction.row.class.delay() as u64,
+            landing: u64::from(issue) + u64::from(instruction.row.class.delay()),
             result: port_result(instruction.row),
-        }
-    }
-}
-
-impl Claim for PortClaim {
-    ghost clash = { SamePort };
-
-    ghost mutual = { same_port_mutual };
-
-    fn clashes(&self, other: &PortClaim) -> bool {
-        if self.landing != other.landing {
-            return false;
-        }
-        match (self.side, other.side) {
-            (Some(side), Some(others)) if side == others => !may_share(self.result, other.result),
-            _ => false,
         }
     }
 }
 
 // Whether two results may land in one cycle.
 fn may_share(one: PortResult, other: PortResult) -> bool
-    ensures decides { Decides result (MayShare one other) }
+    ensures decides { IsTrue result ↔ MayShare one other }
 {
-    match (one, other) {
-        (PortResult::OneFourCycle, PortResult::OneTwoCycle) => true,
-        (PortResult::OneTwoCycle, PortResult::OneFourCycle) => true,
-        _ => false,
+    matches!(
+        (one, other),
+        (PortResult::OneFourCycle, PortResult::OneTwoCycle)
+            | (PortResult::OneTwoCycle, PortResult::OneFourCycle)
+    )
+}
+
+impl Claim for PortClaim {
+    ghost clash = { SamePort };
+
+    fn clashes(&self, other: &PortClaim) -> bool {
+        self.landing == other.landing
+            && self.side.is_some()
+            && self.side == other.side
+            && !may_share(self.result, other.result)
     }
+
+    ghost mutual = { same_port_mutual };
 }
