@@ -1,8 +1,8 @@
 -- A register that is read often is read somewhere. Assumes nothing.
-use Rattle.std.proofs.Common.{◌≡◌, ℕ, suc, ◌+◌, ◌<◌, Bool, true, false, cond, eqb, List, [], ◌∷◌, length, get_or, Some, None, sum_by, count_by, Option, sym, refl, ap, ◌∙◌, subst, ⊎_elim, suc-le-suc, zero-le, arith, eqb-true}
+use Rattle.std.proofs.Common.{◌≡◌, ℕ, suc, ◌<◌, Bool, true, false, cond, eqb, List, [], ◌∷◌, length, get_or, ◌↔◌, Some, None, sum_by, count_by, Option, sym, refl, ap, subst, ⊎_elim, suc-le-suc, zero-le, arith, eqb-true}
 use Rattle.std.proofs.lemmas.List.Sums.{sum_by-cons}
-use Rattle.std.proofs.lemmas.List.{get_or_default}
 use Rattle.std.proofs.lemmas.Bool.{cases_eq}
+use Rattle.std.specs.List.{Any}
 use Rattle.isa.specs.declared.register.Register.{Register}
 use Rattle.admission.specs.declared.instruction.Instruction.{Instruction}
 use Rattle.admission.specs.Operands.{present, stored_width, read_places}
@@ -51,12 +51,13 @@ excess_found xs (r, h) =
     let six : length (read_places x) ≡ 6 = sym (ap length (front_reads x)) in
     (x, k, hk, at, j, omega arith, subst (ExcessAt xs) (sym e) h)
 
--- one instruction more
-pub free_more : (xs : List Instruction) (k : ℕ) (d : Instruction) → k < length xs
-    → ((m : ℕ) (d : Instruction) → m < k → (j : ℕ) → j < 6 → ExcessAt xs (get_or (read_places (get_or xs m d)) j None) → ⊥)
-    → ((j : ℕ) → j < 6 → ExcessAt xs (get_or (read_places (get_or xs k d)) j None) → ⊥)
-    → (m : ℕ) (d : Instruction) → m < k + 1 → (j : ℕ) → j < 6 → ExcessAt xs (get_or (read_places (get_or xs m d)) j None) → ⊥
-free_more xs k d hk before now-free m c h j hj x =
-    ⊎_elim
-    (λ e. now-free j hj (subst (λ (i : Instruction). ExcessAt xs (get_or (read_places i) j None)) (ap (λ n. get_or xs n c) e ∙ get_or_default xs k c d hk) x))
-    (λ apart. before m c (omega arith) j hj x) (cases_eq m k)
+-- so some instruction of the packet reads it, and the other way round
+pub excess_any : (xs : List Instruction) → Any (λ x. (j : ℕ) × (j < 6) × ExcessAt xs (get_or (read_places x) j None)) xs ↔ ReadExcess xs
+excess_any xs = (
+  λ (k, x, hk, at, (j, hj, e)). there (get_or (read_places x) j None) e,
+  λ e. let (x, k, hk, at, j, hj, h) = excess_found xs e in (k, x, hk, at x, (j, hj, h)),
+)
+  where
+    there : (o : Option Register) → ExcessAt xs o → ReadExcess xs
+    there (Some r) h = (r, h)
+    there None h = absurd h

@@ -24,10 +24,10 @@ cross_use s i = cond (uses_cross s i) 1 0
 abbrev pub CrossExcess : List Instruction → Type 0
 CrossExcess xs = (s : Side) × (2 < sum_by (cross_use s) xs)
 
--- 1 where a place has that register, else 0
-abbrev pub mention : Register → Option Register → ℕ
-mention r None = 0
-mention r (Some q) = cond (q.number == r.number) 1 0
+-- the place has that register
+abbrev pub names : Register → Option Register → Bool
+names r None = false
+names r (Some q) = q.number == r.number
 
 -- how often an instruction reads a register
 abbrev pub mentions : Register → Instruction → ℕ

@@ -1,8 +1,8 @@
 // The two counts: uses of a cross path, and reads of a register.
-ghost use Rattle.std.specs.Prelude.{◌≡◌, ℕ, ◌<◌, None, Decides, sum_by, slice_index_or};
+ghost use Rattle.std.specs.Prelude.{◌≡◌, ℕ, ◌<◌, None, sum_by, slice_index_or, ◌↔◌, IsTrue};
 ghost use Rattle.admission.specs.declared.instruction.Instruction.{Instruction};
 ghost use Rattle.admission.specs.Operands.{read_places};
-ghost use Rattle.hazards.specs.Counts.{cross_use, mentions, mention, CrossExcess, ReadExcess, ExcessAt};
+ghost use Rattle.hazards.specs.Counts.{cross_use, mentions, names, CrossExcess, ReadExcess, ExcessAt};
 ghost use Rattle.hazards.specs.Empty.{no_cross_excess, no_read_excess};
 
 use crate::fault::PacketFault;
@@ -14,7 +14,7 @@ use isa::unit::Side;
 trait Counted {
     ghost amount: { Self → Instruction → ℕ };
 
-    fn count(&self, instruction: &Instruction) -> u8
+    fn count(&self, instruction: &Instruction) -> usize
         ensures { result ≡ amount self.now instruction.now };
 }
 
@@ -22,53 +22,38 @@ trait Counted {
 impl Counted for Side {
     ghost amount = { cross_use };
 
-    fn count(&self, instruction: &Instruction) -> u8 {
-        let Some(unit) = instruction.unit else {
-            return 0;
-        };
-        match (unit.side, *self) {
-            (Side::A, Side::A) | (Side::B, Side::B) if instruction.cross => 1,
-            _ => 0,
-        }
+    fn count(&self, instruction: &Instruction) -> usize {
+        let used = instruction.cross && instruction.unit.is_some_and(|unit| unit.side == *self);
+        usize::from(used)
     }
 }
 
-// 1 where a place has that register, else 0.
-fn mention_at(register: Register, place: Option<Register>) -> u8
-    ensures value { result ≡ mention register place }
-    ensures small { result < 2 }
+// Whether a place has that register.
+fn names(register: Register, place: Option<Register>) -> bool
+    ensures value { result ≡ names register place }
 {
-    match place {
-        Some(read) if read.number == register.number => 1,
-        _ => 0,
-    }
+    place == Some(register)
 }
 
 // Reads of a register.
 impl Counted for Register {
     ghost amount = { mentions };
 
-    fn count(&self, instruction: &Instruction) -> u8 {
-        let [s1, s1_odd, s2, s2_odd, data, data_odd] = instruction.reads();
-        mention_at(*self, s1)
-            + mention_at(*self, s1_odd)
-            + mention_at(*self, s2)
-            + mention_at(*self, s2_odd)
-            + mention_at(*self, data)
-            + mention_at(*self, data_odd)
+    fn count(&self, instruction: &Instruction) -> usize {
+        let reads = instruction.reads();
+        reads.iter().filter(|place| names(*self, **place)).count()
     }
 }
 
 // Whether a packet has more of it than a limit.
 fn over<K: Counted>(key: &K, packet: &[Instruction], limit: u8) -> bool
-    requires small { limit < 255 }
-    ensures decides { Decides result (limit < sum_by (K.amount key.now) packet.now) }
+    ensures decides { IsTrue result ↔ (limit < sum_by (K.amount key.now) packet.now) }
 {
-    let mut sum = 0u8;
-    for instruction in packet {
-        sum = sum.saturating_add(key.count(instruction));
-    }
-    sum > limit
+    let sum = packet.iter().fold(
+        0usize,
+        |sum, instruction| sum.saturating_add(key.count(instruction)),
+    );
+    sum > usize::from(limit)
 }
 
 // More than two instructions use the cross path to one side.
@@ -78,19 +63,16 @@ pub struct CrossPathUses;
 impl PacketFault for CrossPathUses {
     ghost fault = { λ _. CrossExcess };
 
-    ghost none = { λ _. no_cross_excess };
-
     fn broken(&self, packet: &[Instruction]) -> bool {
-        if over(&Side::A, packet, 2) {
-            return true;
-        }
-        over(&Side::B, packet, 2)
+        over(&Side::A, packet, 2) || over(&Side::B, packet, 2)
     }
+
+    ghost none = { λ _. no_cross_excess };
 }
 
 // Whether the register of a place is read more than four times in a packet.
 fn over_at(packet: &[Instruction], place: Option<Register>) -> bool
-    ensures decides { Decides result (ExcessAt packet.now place) }
+    ensures decides { IsTrue result ↔ ExcessAt packet.now place }
 {
     match place {
         Some(register) => over(&register, packet, 4),
@@ -99,16 +81,11 @@ fn over_at(packet: &[Instruction], place: Option<Register>) -> bool
 }
 
 // Whether a register that an instruction reads is read more than four times in a packet.
-fn over_in(packet: &[Instruction], instruction: Instruction) -> bool
-    ensures decides { Decides result ((j : ℕ) × (j < 6) × ExcessAt packet.now (slice_index_or (read_places instruction) j None)) }
+fn over_in(packet: &[Instruction], instruction: &Instruction) -> bool
+    ensures decides { IsTrue result ↔ ((j : ℕ) × (j < 6) × ExcessAt packet.now (slice_index_or (read_places instruction.now) j None)) }
 {
-    let places = instruction.reads();
-    for j in 0..6 {
-        if over_at(packet, places[j]) {
-            return true;
-        }
-    }
-    false
+    let reads = instruction.reads();
+    reads.iter().any(|place| over_at(packet, *place))
 }
 
 // A register is read more than four times.
@@ -118,14 +95,11 @@ pub struct RegisterReads;
 impl PacketFault for RegisterReads {
     ghost fault = { λ _. ReadExcess };
 
-    ghost none = { λ _. no_read_excess };
-
     fn broken(&self, packet: &[Instruction]) -> bool {
-        for k in 0..packet.len() {
-            if over_in(packet, packet[k]) {
-                return true;
-            }
-        }
-        false
+        packet
+            .iter()
+            .any(|instruction| over_in(packet, instruction))
     }
+
+    ghost none = { λ _. no_read_excess };
 }

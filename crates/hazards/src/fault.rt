@@ -1,5 +1,5 @@
 // The first slot that completes a fault of a packet as a whole: one search for every such fault.
-ghost use Rattle.std.specs.Prelude.{List, [], Decides, MatchOption};
+ghost use Rattle.std.specs.Prelude.{List, [], MatchOption, ◌↔◌, IsTrue};
 ghost use Rattle.admission.specs.declared.instruction.Instruction.{Instruction};
 ghost use Rattle.hazards.specs.Faults.{FirstSlot};
 
@@ -9,21 +9,16 @@ pub trait PacketFault {
     // When a packet has the fault.
     ghost fault: { Self → List Instruction → Type 0 };
 
-    // A packet without instructions does not.
-    ghost none: { (x : Self) → fault x [] → ⊥ };
-
     fn broken(&self, packet: &[Instruction]) -> bool
-        ensures { Decides result (fault self.now packet.now) };
+        ensures { IsTrue result ↔ fault self.now packet.now };
+
+    // A packet without instructions does not have it.
+    ghost none: { (x : Self) → fault x [] → ⊥ };
 }
 
 // The first slot up to which the packet has the fault.
 pub fn first_slot<F: PacketFault>(kind: &F, packet: &[Instruction]) -> Option<usize>
     ensures cases { MatchOption result (F.fault kind.now packet.now → ⊥) (FirstSlot (F.fault kind.now) packet.now) }
 {
-    for slot in 0..packet.len() {
-        if kind.broken(&packet[0..slot + 1]) {
-            return Some(slot);
-        }
-    }
-    None
+    (0..packet.len()).find(|slot| kind.broken(&packet[..*slot + 1]))
 }

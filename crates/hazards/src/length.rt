@@ -18,9 +18,8 @@ fn nop_cycles(instruction: &Instruction) -> u8
 pub fn packet_length(packet: &[Instruction]) -> u8
     ensures value { result ≡ packet_length packet.now }
 {
-    let mut longest = 1u8;
-    for instruction in packet {
-        longest = longest.max(nop_cycles(instruction));
-    }
-    longest
+    packet.iter().fold(
+        1,
+        |longest, instruction| longest.max(nop_cycles(instruction)),
+    )
 }

@@ -1,7 +1,11 @@
-use Rattle.hazards.proofs.Sums.{mentions_six}
+use Rattle.std.proofs.Common.{◌≡◌, eqb, count_by, ap, ◌∙◌, rules}
+use Rattle.std.proofs.iter.runs.Made.{chains}
+use Rattle.hazards.specs.Counts.{names}
+use Rattle.hazards.proofs.Sums.{named_places}
 use Rattle.hazards.proofs.counts.RegisterCounted.count.Goals as goal
 
 pub returns : goal.returns
 returns c =
-    mentions_six c.args.self.now c.args.instruction.now c.reads.result c.reads.ensures.places c.reads.ensures.mentions _ _ _ _ _ _
-    c.mention_at.ensures.value c.mention_at-2.ensures.value c.mention_at-3.ensures.value c.mention_at-4.ensures.value c.mention_at-5.ensures.value c.mention_at-6.ensures.value
+    let r = c.args.self.now in
+    let e : c.count.result ≡ count_by (names r) c.reads-reads.result = search (rules, chains) in
+    e ∙ named_places r c.reads-reads.result ∙ ap (count_by (λ q. eqb q.number r.number)) c.reads-reads.ensures.mentions
