@@ -1,6 +1,7 @@
 -- Packets in another order of their slots: they issue and last as before, the same writes land, the same runs pass, and the same constraints are broken.
 -- Assumes nothing.
 use Rattle.std.proofs.Common.{◌≡◌, ℕ, ◌+◌, ◌<◌, ◌≤◌, ◌⊎◌, List, [], ◌∷◌, ◌++◌, length, take, Some, sym, refl, ◌∙◌, subst, ap₂, subst₂, inl, inr, ⊎_elim, arith}
+use Rattle.std.specs.List.{slice_get}
 use mathlib.Core.Logic.{⊎_map}
 use Rattle.std.specs.List.Sorted.{IsPermutation}
 use Rattle.std.specs.List.{AllZip, AllByRecursion as All}
@@ -8,7 +9,6 @@ use Rattle.std.proofs.lemmas.List.Sorted.{IsPermutation-sym, sum_by-IsPermutatio
 use Rattle.std.proofs.ByRecursion.{all_shuffled, All-weaker}
 use Rattle.std.proofs.lemmas.List.Elements.{length_all_zip}
 use Rattle.std.proofs.lemmas.List.Sums.{sum_by-cons}
-use Rattle.isa.specs.BuiltIn.{at}
 use Rattle.isa.specs.declared.condition.Condition.{Condition}
 use Rattle.admission.specs.declared.instruction.Instruction.{Instruction}
 use Rattle.admission.specs.declared.instruction.Write.{Write}
@@ -60,14 +60,14 @@ stands_stay ps ps' k s i e (p, there, here) =
 
 -- in packets with one more at their end: where it stood before, or in the one more
 pub stands_push_cases : (ps : List (List Instruction)) (xs : List Instruction) (k s : ℕ) (i : Instruction) → Stands (ps ++ xs ∷ []) k s i
-    → Stands ps k s i ⊎ ((k ≡ length ps) × (at xs s ≡ Some i))
+    → Stands ps k s i ⊎ ((k ≡ length ps) × (slice_get xs s ≡ Some i))
 stands_push_cases ps xs k s i (p, there, here) =
-    ⊎_elim (λ a. inl (p, a, here)) (λ a. inr (a.0, subst (λ q. at q s ≡ Some i) (sym a.1) here)) (at_push_cases ps xs k p there)
+    ⊎_elim (λ a. inl (p, a, here)) (λ a. inr (a.0, subst (λ q. slice_get q s ≡ Some i) (sym a.1) here)) (at_push_cases ps xs k p there)
 
 pub stands_before : (ps : List (List Instruction)) (xs : List Instruction) (k s : ℕ) (i : Instruction) → Stands ps k s i → Stands (ps ++ xs ∷ []) k s i
 stands_before ps xs k s i (p, there, here) = (p, at_append_left ps (xs ∷ []) k (at_inside ps k p there) ∙ there, here)
 
-pub stands_last : (ps : List (List Instruction)) (xs : List Instruction) (s : ℕ) (i : Instruction) → at xs s ≡ Some i → Stands (ps ++ xs ∷ []) (length ps) s i
+pub stands_last : (ps : List (List Instruction)) (xs : List Instruction) (s : ℕ) (i : Instruction) → slice_get xs s ≡ Some i → Stands (ps ++ xs ∷ []) (length ps) s i
 stands_last ps xs s i here = (xs, at_push ps xs, here)
 
 pub stands_inside : (ps : List (List Instruction)) (k s : ℕ) (i : Instruction) → Stands ps k s i → k < length ps
@@ -137,7 +137,7 @@ clash_at_stays lawful start past past' xs xs' e shuffled n k s t (x, y, stands, 
         let not_last : k ≡ length past' → s' ≡ m.to t → ⊥ = λ last _. absurd (omega (arith, stands_inside past' k s' x there)) in
         (s', m.to t, (x, y, stands_before past' xs' k s' x there, m.same t y here, not_last, again))
 
-    behind : (k ≡ length past) × (at xs s ≡ Some x) → (s' t' : ℕ) × ClashAt lawful start past' xs' n k s' t'
+    behind : (k ≡ length past) × (slice_get xs s ≡ Some x) → (s' t' : ℕ) × ClashAt lawful start past' xs' n k s' t'
     behind (last, place) =
         let there = stands_last past' xs' (m.to s) x (m.same s x place) in
         let stays = subst (λ (j : ℕ). Stands (past' ++ xs' ∷ []) j (m.to s) x) (sym (last ∙ length_all_zip IsPermutation past past' e)) there in

@@ -1,7 +1,7 @@
 -- The constraints 11 to 19 on a packet xs behind the packets accepted before it, past.
 -- The number of the packet xs is the length of past, and it issues in the cycle after theirs.
 use Rattle.std.specs.Prelude.{◌≡◌, ℕ, ◌+◌, ◌⊎◌, List, [], ◌∷◌, ◌++◌, length, Some, ◌≢◌}
-use Rattle.isa.specs.BuiltIn.{at}
+use Rattle.std.specs.List.{slice_get}
 use Rattle.admission.specs.declared.instruction.Instruction.{Instruction}
 use Rattle.admission.specs.declared.instruction.Write.{Write}
 use Rattle.runs.specs.declared.valuations.Valuations.{Valuations}
@@ -33,7 +33,7 @@ Clash lawful start past n k x y = ((k ≡ length past) × Beside n x y) ⊎ Clas
 
 -- by constraint n, the instruction in slot s of packet k, accepted or the one behind, clashes with another in slot t of the packet xs behind past
 abbrev pub ClashAt : Valuations → Valuations → List (List Instruction) → List Instruction → ℕ → ℕ → ℕ → ℕ → Type 0
-ClashAt lawful start past xs n k s t = (x y : Instruction) × Stands (past ++ xs ∷ []) k s x × (at xs t ≡ Some y) × (k ≡ length past → s ≢ t) × Clash lawful start past n k x y
+ClashAt lawful start past xs n k s t = (x y : Instruction) × Stands (past ++ xs ∷ []) k s x × (slice_get xs t ≡ Some y) × (k ≡ length past → s ≢ t) × Clash lawful start past n k x y
 
 -- the packet xs behind past breaks constraint n
 abbrev pub Breaks : Valuations → Valuations → List (List Instruction) → List Instruction → ℕ → Type 0

@@ -1,7 +1,7 @@
 -- Schedules: lists of packets, each a list of instructions. When packets issue, and where their writes land.
 -- Packets, slots and cycles count from 0.
 use Rattle.std.specs.Prelude.{◌≡◌, ℕ, ◌+◌, ◌<◌, ◌≤◌, true, false, List, take, Some, None, sum_by, slice_index_or}
-use Rattle.isa.specs.BuiltIn.{at}
+use Rattle.std.specs.List.{slice_get}
 use Rattle.isa.specs.declared.condition.ConditionRegister.{ConditionRegister}
 use Rattle.isa.specs.Conditions.{register_number}
 use Rattle.isa.specs.declared.register.Register.{Register}
@@ -21,7 +21,7 @@ issue ps k = cycles (take k ps)
 
 -- the instruction stands in slot s of packet k
 abbrev pub Stands : List (List Instruction) → ℕ → ℕ → Instruction → Type 0
-Stands ps k s i = (p : List Instruction) × (at ps k ≡ Some p) × (at p s ≡ Some i)
+Stands ps k s i = (p : List Instruction) × (slice_get ps k ≡ Some p) × (slice_get p s ≡ Some i)
 
 -- the instruction has that write
 abbrev pub Writes : Instruction → Write → Type 0
@@ -41,4 +41,4 @@ May ps k i = (c : ℕ) × (w : Write) × Lands ps c w × (issue ps k ≤ c) × (
 
 -- the packet xs behind past has a stall: one of its instructions brings over the cross path a register of which a write, not load data, landed in the cycle before
 abbrev pub Stalls : List (List Instruction) → List Instruction → Type 0
-Stalls past xs = (t c : ℕ) × (x : Instruction) × (w : Write) × (at xs t ≡ Some x) × (x.cross ≡ true) × (x.s2 ≡ Some w.register) × Lands past c w × (w.load ≡ false) × (c + 1 ≡ cycles past)
+Stalls past xs = (t c : ℕ) × (x : Instruction) × (w : Write) × (slice_get xs t ≡ Some x) × (x.cross ≡ true) × (x.s2 ≡ Some w.register) × Lands past c w × (w.load ≡ false) × (c + 1 ≡ cycles past)

@@ -1,10 +1,10 @@
 -- Tests of the constraints 11 to 19: of a clash at two places, of counts, and of the packet as a whole.
 -- Assumes nothing.
 use Rattle.std.proofs.Common.{◌≡◌, ℕ, ◌+◌, ◌<◌, ◌≤◌, true, ◌&&◌, leb, ◌⊎◌, List, [], ◌∷◌, ◌++◌, length, get_or, Some, None, sum_by, Option, sym, subst, inl, inr, ⊎_elim, arith}
+use Rattle.std.specs.List.{slice_get}
 use mathlib.Core.Logic.{⊎_map}
 use Rattle.std.proofs.lemmas.List.{length-append}
 use Rattle.std.proofs.lemmas.Bool.{and_parts, and_from, leb-true, le-leb}
-use Rattle.isa.specs.BuiltIn.{at}
 use Rattle.isa.specs.declared.register.Register.{Register}
 use Rattle.isa.specs.declared.unit.Side.{Side}
 use Rattle.isa.specs.declared.unit.Side.TheVariants.{A, B}
@@ -92,8 +92,8 @@ Apart lawful start past n k s t x y = ((k ≡ length past) × (s ≡ t) → ⊥)
 
 abbrev pub At : Valuations → Valuations → List (List Instruction) → List Instruction → ℕ → ℕ → ℕ → ℕ → Type 0
 At lawful start past xs n k s t =
-    (p : List Instruction) × (at (past ++ xs ∷ []) k ≡ Some p)
-    × ((x : Instruction) × (at p s ≡ Some x) × ((y : Instruction) × (at xs t ≡ Some y) × Apart lawful start past n k s t x y))
+    (p : List Instruction) × (slice_get (past ++ xs ∷ []) k ≡ Some p)
+    × ((x : Instruction) × (slice_get p s ≡ Some x) × ((y : Instruction) × (slice_get xs t ≡ Some y) × Apart lawful start past n k s t x y))
 
 -- how many slots a packet has, if there is one
 abbrev pub slots_of : Option (List Instruction) → ℕ
@@ -101,7 +101,7 @@ slots_of None = 0
 slots_of (Some p) = length p
 
 abbrev pub slots_at : List (List Instruction) → List Instruction → ℕ → ℕ
-slots_at past xs k = slots_of (at (past ++ xs ∷ []) k)
+slots_at past xs k = slots_of (slice_get (past ++ xs ∷ []) k)
 
 module _ (lawful start : Valuations) (past : List (List Instruction)) (xs : List Instruction) (n k s t : ℕ) where
   pub clash_packet : ClashAt lawful start past xs n k s t → k < length past + 1
@@ -126,10 +126,10 @@ module _ (lawful start : Valuations) (past : List (List Instruction)) (xs : List
 abbrev pub clash_at : (lawful start : Valuations) (past : List (List Instruction)) (xs : List Instruction) (n k s t : ℕ) → Test (ClashAt lawful start past xs n k s t)
 clash_at lawful start past xs n k s t =
     like (clash_there lawful start past xs n k s t) (clash_back lawful start past xs n k s t)
-    (given (λ p. (x : Instruction) × (at p s ≡ Some x) × ((y : Instruction) × (at xs t ≡ Some y) × Apart lawful start past n k s t x y))
-    (λ p. given (λ x. (y : Instruction) × (at xs t ≡ Some y) × Apart lawful start past n k s t x y)
-    (λ x. given (λ y. Apart lawful start past n k s t x y) (λ y. both (lacks (both (equal k (length past)) (equal s t))) (clashing lawful start past n k x y)) (at xs t)) (at p s))
-    (at (past ++ xs ∷ []) k))
+    (given (λ p. (x : Instruction) × (slice_get p s ≡ Some x) × ((y : Instruction) × (slice_get xs t ≡ Some y) × Apart lawful start past n k s t x y))
+    (λ p. given (λ x. (y : Instruction) × (slice_get xs t ≡ Some y) × Apart lawful start past n k s t x y)
+    (λ x. given (λ y. Apart lawful start past n k s t x y) (λ y. both (lacks (both (equal k (length past)) (equal s t))) (clashing lawful start past n k x y)) (slice_get xs t)) (slice_get p s))
+    (slice_get (past ++ xs ∷ []) k))
 
 -- some slot of packet k, some packet, some slot of xs
 abbrev pub clash_in : (lawful start : Valuations) (past : List (List Instruction)) (xs : List Instruction) (n t k : ℕ) → Test ((s : ℕ) × ClashAt lawful start past xs n k s t)

@@ -3,7 +3,7 @@
 use Rattle.std.proofs.Common.{◌≡◌, ℕ, zero, suc, ◌+◌, ◌<◌, ◌≤◌, Bool, true, false, cond, not, ◌&&◌, ◌||◌, eqb, ltb, leb, ◌⊎◌, List, [], ◌∷◌, Some, None, Decides, Option, sym, refl, ap, ◌∙◌, subst, inl, inr, ⊎_elim, arith}
 use Rattle.std.proofs.lemmas.Bool.{false≢true, cases_lt, cases_eq, leb-true, le-leb, not-true, not_from_false, cond_both}
 use Rattle.std.proofs.lemmas.Bool.Decides.{Decides-eqb, Decides-ltb, Decides-and, Decides-or, Decides-not, Decides-like, not_from_Decides}
-use Rattle.isa.specs.BuiltIn.{at}
+use Rattle.std.specs.List.{slice_get}
 use Rattle.admission.specs.Refusals.{Least}
 use Rattle.constraints.proofs.Moving.{none_some, some_one}
 
@@ -65,9 +65,9 @@ given P f (Some y) = like (λ p. (y, refl, p)) (λ (x, e, p). subst P (sym (some
 
 -- of some element of a list, with its place
 abbrev pub Somewhere : {X : Type 0} → (ℕ → X → Type 0) → List X → Type 0
-Somewhere {X} P xs = (k : ℕ) × (x : X) × (at xs k ≡ Some x) × P k x
+Somewhere {X} P xs = (k : ℕ) × (x : X) × (slice_get xs k ≡ Some x) × P k x
 
-pub head_or_later : {X : Type 0} (P : ℕ → X → Type 0) (y : X) (ys : List X) (k : ℕ) (x : X) → at (y ∷ ys) k ≡ Some x → P k x → P 0 y ⊎ Somewhere (λ j. P (suc j)) ys
+pub head_or_later : {X : Type 0} (P : ℕ → X → Type 0) (y : X) (ys : List X) (k : ℕ) (x : X) → slice_get (y ∷ ys) k ≡ Some x → P k x → P 0 y ⊎ Somewhere (λ j. P (suc j)) ys
 head_or_later P y ys zero x e p = inl (subst (P 0) (sym (some_one y x e)) p)
 head_or_later P y ys (suc k) x e p = inr (k, x, e, p)
 

@@ -1,7 +1,7 @@
 -- Tests of what lands: some write of an instruction, two writes at one register, a change of a condition register, and a stall.
 -- Assumes nothing.
 use Rattle.std.proofs.Common.{◌≡◌, ℕ, ◌+◌, ◌<◌, ◌≤◌, true, false, List, [], ◌∷◌, get_or, Some, None, refl, subst}
-use Rattle.isa.specs.BuiltIn.{at}
+use Rattle.std.specs.List.{slice_get}
 use Rattle.isa.specs.declared.condition.ConditionRegister.{ConditionRegister}
 use Rattle.isa.specs.declared.condition.ConditionRegister.TheVariants.{B0, B1, B2, A1, A2, A0}
 use Rattle.isa.specs.declared.register.Register.{Register}
@@ -51,7 +51,7 @@ landed ps P f =
 abbrev pub condition_registers : List ConditionRegister
 condition_registers = B0 ∷ B1 ∷ B2 ∷ A1 ∷ A2 ∷ A0 ∷ []
 
-pub listed : (q : ConditionRegister) → at condition_registers (place q) ≡ Some q
+pub listed : (q : ConditionRegister) → slice_get condition_registers (place q) ≡ Some q
 listed B0 = refl
 listed B1 = refl
 listed B2 = refl

@@ -1,11 +1,11 @@
 -- The places of a fault: the least slot up to which a constraint is broken, and the first place that clashes with it.
 -- Assumes nothing.
 use Rattle.std.proofs.Common.{◌≡◌, ℕ, zero, suc, ◌+◌, ◌-◌, ◌<◌, ◌≤◌, cond, List, [], ◌∷◌, ◌++◌, length, take, Some, sym, refl, ap, ◌∙◌, subst, subst₂, inl, inr, ⊎_elim, arith}
+use Rattle.std.specs.List.{slice_get}
 use mathlib.Core.Logic.{⊎_map}
 use Rattle.std.proofs.lemmas.List.{length-take, take_all}
 use Rattle.std.proofs.lemmas.Bool.{cases_eq, cond_both}
 use Rattle.std.proofs.lemmas.Bool.Decides.{not_from_Decides}
-use Rattle.isa.specs.BuiltIn.{at}
 use Rattle.admission.specs.declared.instruction.Instruction.{Instruction}
 use Rattle.admission.specs.Refusals.{Least}
 use Rattle.runs.specs.declared.valuations.Valuations.{Valuations}
@@ -24,13 +24,13 @@ use Rattle.decision.proofs.Deciding.{Test, scan, scan_least, scan_some}
 use Rattle.decision.proofs.Breaking.{breaks, clash_at, clash_in, clash_with, slots_at, clash_packet, clash_slot, clash_inside}
 
 -- what stands in the first of a list stands in the list
-at_take : {X : Type 0} (m : ℕ) (xs : List X) (k : ℕ) → k < m → at (take m xs) k ≡ at xs k
+at_take : {X : Type 0} (m : ℕ) (xs : List X) (k : ℕ) → k < m → slice_get (take m xs) k ≡ slice_get xs k
 at_take zero xs k h = absurd (omega arith)
 at_take (suc m) [] k h = refl
 at_take (suc m) (x ∷ xs) zero h = refl
 at_take (suc m) (x ∷ xs) (suc k) h = at_take m xs k (omega arith)
 
-at_taken : {X : Type 0} (m : ℕ) (xs : List X) (k : ℕ) (x : X) → at (take m xs) k ≡ Some x → (k < m) × (at xs k ≡ Some x)
+at_taken : {X : Type 0} (m : ℕ) (xs : List X) (k : ℕ) (x : X) → slice_get (take m xs) k ≡ Some x → (k < m) × (slice_get xs k ≡ Some x)
 at_taken m xs k x e = let l = length-take m xs in let i = at_inside (take m xs) k x e in let h : k < m = omega arith in (h, sym (at_take m xs k h) ∙ e)
 
 -- a clash of two instructions of one packet is mutual

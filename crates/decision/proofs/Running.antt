@@ -1,6 +1,6 @@
 -- A test whether some run performs two instructions: sets of valuations as numbers, carried from packet to packet.
 -- Assumes nothing.
-use Rattle.std.proofs.Common.{◌≡◌, ℕ, zero, suc, ◌+◌, ◌-◌, ◌*◌, ◌/◌, ◌%◌, ◌^◌, ◌<◌, ◌≤◌, Bool, true, false, cond, not, eqb, List, length, Decides, sym, refl, ◌∙◌, subst, ⊎_elim, add-one, arith}
+use Rattle.std.proofs.Common.{◌≡◌, ℕ, zero, suc, ◌+◌, ◌-◌, ◌*◌, ◌/◌, ◌%◌, ◌^◌, ◌<◌, ◌≤◌, Bool, true, false, cond, not, eqb, List, length, Decides, sym, refl, ◌∙◌, subst, ⊎_elim, add-one, arith, ◌↔◌}
 use lib.Bits.{bit_and, bit_or, and_le_r}
 use Rattle.std.proofs.lemmas.Bool.{cases_Bool, eqb-true, eqb-false, ne_eqb, not-true, not_from_false, cond-true, cond-false}
 use Rattle.isa.specs.Bits.{bit}
@@ -10,7 +10,7 @@ use Rattle.isa.specs.declared.condition.ConditionRegister.{ConditionRegister}
 use Rattle.isa.specs.declared.condition.ConditionRegister.TheVariants.{B0, B1, B2, A1, A2, A0}
 use Rattle.admission.specs.declared.instruction.Instruction.{Instruction}
 use Rattle.runs.specs.declared.valuations.Valuations.{Valuations}
-use Rattle.runs.specs.Valuations.{Iff, place, Meets, Has, MayChange, After}
+use Rattle.runs.specs.Valuations.{place, Meets, Has, MayChange, After}
 use Rattle.runs.specs.Runs.{Carries, Reaches}
 use Rattle.runs.proofs.Sets.{high, high_at, low_at, full_at, spread_at, bit-bit_and, some_bit, no_bit, zero_or_one}
 use Rattle.runs.proofs.Expanding.{Expanded, expanded_none, expanded_skip, expanded_more, expanded_all}
@@ -42,7 +42,7 @@ high_fits A1 = omega arith
 high_fits A2 = omega arith
 high_fits A0 = omega arith
 
-meeting_at : (c : Condition) (v : ℕ) → v < 64 → Iff (bit (meeting c) v ≡ 1) (Meets c v)
+meeting_at : (c : Condition) (v : ℕ) → v < 64 → (bit (meeting c) v ≡ 1) ↔ Meets c v
 meeting_at Always v hv = (λ h. tt, λ h. full_at v hv)
 meeting_at (Nonzero r) v hv = let e = high_at (place r) v (six r) hv in (λ h. sym e ∙ h, λ h. e ∙ h)
 meeting_at (Zero r) v hv = let e = low_at (place r) v (six r) hv in (λ h. omega arith, λ h. omega arith)
@@ -83,7 +83,7 @@ shared : (a b : ℕ) → Shared (set (bit_and a b)) (set a) (set b)
 shared a b v = let e = bit-bit_and a b v in let x = zero_or_one a v in let y = zero_or_one b v in
     (λ h. (⊎_elim (λ z. absurd (omega arith)) (λ o. o) x, ⊎_elim (λ z. absurd (omega arith)) (λ o. o) y), λ (p, q). omega arith)
 
-stepped : (lawful s m w : ℕ) → w < 64 → Iff (Has (set (step lawful s m)) w) (Has (set lawful) w × After (set s) (record { mask = m }) w)
+stepped : (lawful s m w : ℕ) → w < 64 → Has (set (step lawful s m)) w ↔ (Has (set lawful) w × After (set s) (record { mask = m }) w)
 stepped lawful s m w hw =
     let e = shared lawful (expand m s 6) w in
     let x = expanded_all s m (expand m s 6) (expanded m s 6 (omega arith)) w hw in
@@ -101,7 +101,7 @@ digit_small : (b : Bool) → digit b ≤ 1
 digit_small true = omega arith
 digit_small false = omega arith
 
-digit_one : (b : Bool) → Iff (digit b ≡ 1) (b ≡ true)
+digit_one : (b : Bool) → (digit b ≡ 1) ↔ (b ≡ true)
 digit_one true = (λ e. refl, λ e. refl)
 digit_one false = (λ e. absurd (omega arith), λ e. absurd (let z : ◌≡◌ {A = ℕ} 0 1 = cc in omega arith))
 
@@ -115,7 +115,7 @@ sixth a b c d e f (suc (suc (suc (suc zero)))) ha hb hc hd he hf g ga gb gc gd g
 sixth a b c d e f (suc (suc (suc (suc (suc zero))))) ha hb hc hd he hf g ga gb gc gd ge gf h = omega arith
 sixth a b c d e f (suc (suc (suc (suc (suc (suc i)))))) ha hb hc hd he hf g ga gb gc gd ge gf h = absurd (omega arith)
 
-mask_at : (f : ℕ → Bool) (i : ℕ) → i < 6 → Iff (bit (mask f) i ≡ 1) (f i ≡ true)
+mask_at : (f : ℕ → Bool) (i : ℕ) → i < 6 → (bit (mask f) i ≡ 1) ↔ (f i ≡ true)
 mask_at f i h =
     let e = sixth (digit (f 0)) (digit (f 1)) (digit (f 2)) (digit (f 3)) (digit (f 4)) (digit (f 5)) i (digit_small (f 0)) (digit_small (f 1)) (digit_small (f 2)) (digit_small (f 3)) (digit_small (f 4)) (digit_small (f 5))
     (λ k. digit (f k)) refl refl refl refl refl refl h in
@@ -125,7 +125,7 @@ mask_at f i h =
 abbrev pub changing : List (List Instruction) → ℕ → ℕ
 changing past k = mask (λ i. (may past k i).passes)
 
-changing_at : (past : List (List Instruction)) (k i : ℕ) → i < 6 → Iff (MayChange (record { mask = changing past k }) i) (May past k i)
+changing_at : (past : List (List Instruction)) (k i : ℕ) → i < 6 → MayChange (record { mask = changing past k }) i ↔ May past k i
 changing_at past k i h =
     let m = mask_at (λ j. (may past k j).passes) i h in
     (λ b. (may past k i).decides.0 (m.0 b), λ p. m.1 ((may past k i).decides.1 p))

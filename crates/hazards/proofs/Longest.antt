@@ -4,7 +4,7 @@ use Rattle.std.specs.List.{fold}
 use Rattle.admission.specs.declared.instruction.Instruction.{Instruction}
 use Rattle.hazards.specs.Lengths.{nop_cycles, packet_length}
 
-at_least_one : (xs : List Instruction) → 1 ≤ packet_length xs
+pub at_least_one : (xs : List Instruction) → 1 ≤ packet_length xs
 at_least_one [] = omega arith
 at_least_one (x ∷ xs) = let h = at_least_one xs in omega arith
 

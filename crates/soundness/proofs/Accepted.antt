@@ -2,7 +2,7 @@
 use Rattle.std.proofs.Common.{◌≡◌, ℕ, ◌-◌, ◌≤◌, Bool, true, false, cond, ltb, List, [], ◌∷◌, ◌++◌, length, take, Some, Ok, Err, Result, sym, refl, ap, ◌∙◌, subst, inl, inr, ⊎_elim, arith}
 use Rattle.std.proofs.lemmas.List.{length-take, take-append-le, take_at}
 use Rattle.std.proofs.lemmas.Bool.{cases_lt}
-use Rattle.isa.specs.BuiltIn.{at}
+use Rattle.std.specs.List.{slice_get}
 use Rattle.isa.specs.Refusals.{number}
 use Rattle.admission.specs.declared.instruction.Instruction.{Instruction}
 use Rattle.runs.specs.declared.valuations.Valuations.{Valuations}
@@ -25,7 +25,7 @@ use Rattle.soundness.proofs.Prefixes.{issue_take, stands_take, run_take}
 
 -- each packet broke no constraint behind those before it
 abbrev Checked : Valuations → List (List Instruction) → Type 0
-Checked lawful ps = (k : ℕ) (p : List Instruction) → at ps k ≡ Some p → (n : ℕ) → Breaks lawful lawful (take k ps) p n → ⊥
+Checked lawful ps = (k : ℕ) (p : List Instruction) → slice_get ps k ≡ Some p → (n : ℕ) → Breaks lawful lawful (take k ps) p n → ⊥
 
 checked_push : (lawful : Valuations) (ps : List (List Instruction)) (xs : List Instruction) → Checked lawful ps → ((n : ℕ) → Breaks lawful lawful ps xs n → ⊥) → Checked lawful (ps ++ xs ∷ [])
 checked_push lawful ps xs before here k p e n b =
@@ -58,10 +58,10 @@ checked_all k b (c ∷ cs) [] s h = absurd s
 checked_all k b (c ∷ cs) (v ∷ vs) (s, rest) h = checked_all k (after k b c v) cs vs rest (checked_call k b c v s h)
 
 module _ (lawful : Valuations) (ps : List (List Instruction)) (checked : Checked lawful ps) where
-  two_breaks : (l : ℕ) (p : List Instruction) (n s t : ℕ) (x y : Instruction) → at p s ≡ Some x → at p t ≡ Some y → (s ≡ t → ⊥) → Beside n x y → Breaks lawful lawful (take l ps) p n
+  two_breaks : (l : ℕ) (p : List Instruction) (n s t : ℕ) (x y : Instruction) → slice_get p s ≡ Some x → slice_get p t ≡ Some y → (s ≡ t → ⊥) → Beside n x y → Breaks lawful lawful (take l ps) p n
   two_breaks l p n s t x y es et apart beside = inl (length (take l ps), s, t, (x, y, stands_last (take l ps) p s x es, et, λ _ e. apart e, inl (refl, beside)))
 
-  claims_kept : (k : ℕ) (p : List Instruction) → at ps k ≡ Some p → Overclaims p → ⊥
+  claims_kept : (k : ℕ) (p : List Instruction) → slice_get ps k ≡ Some p → Overclaims p → ⊥
   claims_kept k p e =
       ⊎_elim
       (λ (s, t, x, y, es, et, apart, rel).
@@ -88,8 +88,8 @@ module _ (lawful : Valuations) (ps : List (List Instruction)) (checked : Checked
           ⊎_elim (λ lt. stands_before (take l ps) p k s x (stands_take ps l k s x lt st-x))
               (λ ge. let same : k ≡ l = omega arith in
               let (q, at-q, at_x) = st-x in
-              let one : q ≡ p = at_one ps l q p (subst (λ (j : ℕ). at ps j ≡ Some q) same at-q) at_p in
-              subst (λ (j : ℕ). Stands (take l ps ++ p ∷ []) j s x) (long ∙ sym same) (stands_last (take l ps) p s x (subst (λ (z : List Instruction). at z s ≡ Some x) one at_x))) (cases_lt k l),
+              let one : q ≡ p = at_one ps l q p (subst (λ (j : ℕ). slice_get ps j ≡ Some q) same at-q) at_p in
+              subst (λ (j : ℕ). Stands (take l ps ++ p ∷ []) j s x) (long ∙ sym same) (stands_last (take l ps) p s x (subst (λ (z : List Instruction). slice_get z s ≡ Some x) one at_x))) (cases_lt k l),
           at_y,
           λ e d. apart (e ∙ long) d,
           c,

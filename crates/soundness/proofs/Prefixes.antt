@@ -3,7 +3,7 @@ use Rattle.std.proofs.Common.{◌≡◌, ℕ, zero, suc, ◌+◌, ◌<◌, ◌�
 use Rattle.std.proofs.lemmas.List.{take-take}
 use Rattle.std.proofs.lemmas.List.Sums.{sum_by-take-le}
 use Rattle.std.proofs.lemmas.Bool.{cases_lt}
-use Rattle.isa.specs.BuiltIn.{at}
+use Rattle.std.specs.List.{slice_get}
 use Rattle.admission.specs.declared.instruction.Instruction.{Instruction}
 use Rattle.admission.specs.declared.instruction.Write.{Write}
 use Rattle.runs.specs.declared.valuations.Valuations.{Valuations}
@@ -11,7 +11,7 @@ use Rattle.runs.specs.Runs.{Run}
 use Rattle.hazards.specs.Lengths.{packet_length}
 use Rattle.constraints.specs.Schedules.{cycles, issue, Stands, Lands, May}
 
-pub at_take : {X : Type 0} (m : ℕ) (xs : List X) (k : ℕ) → k < m → at (take m xs) k ≡ at xs k
+pub at_take : {X : Type 0} (m : ℕ) (xs : List X) (k : ℕ) → k < m → slice_get (take m xs) k ≡ slice_get xs k
 at_take zero xs k h = absurd (omega arith)
 at_take (suc m) [] k h = refl
 at_take (suc m) (x ∷ xs) zero h = refl

@@ -1,6 +1,6 @@
 -- The packets that a book accepted: no cycle is overclaimed, and no run performs two writes of a register that land together.
 use Rattle.std.specs.Prelude.{◌≡◌, ℕ, ◌-◌, ◌^◌, ◌<◌, ◌⊎◌, List, length, Some, Result, ◌≢◌}
-use Rattle.isa.specs.BuiltIn.{at}
+use Rattle.std.specs.List.{slice_get}
 use Rattle.admission.specs.declared.instruction.Instruction.{Instruction}
 use Rattle.runs.specs.declared.valuations.Valuations.{Valuations}
 use Rattle.runs.specs.Runs.{Run}
@@ -17,7 +17,7 @@ use Rattle.book.specs.Books.{Rules, opened, SaysAll, after_all}
 
 -- two instructions of a packet claim a unit, a data path or memory, or two operands over one cross path
 abbrev pub TwoClaim : List Instruction → Type 0
-TwoClaim p = (s t : ℕ) × (x y : Instruction) × (at p s ≡ Some x) × (at p t ≡ Some y) × (s ≢ t) × (SameUnit x y ⊎ (SameDataPath x y ⊎ (NonalignedPair x y ⊎ CrossOperands x y)))
+TwoClaim p = (s t : ℕ) × (x y : Instruction) × (slice_get p s ≡ Some x) × (slice_get p t ≡ Some y) × (s ≢ t) × (SameUnit x y ⊎ (SameDataPath x y ⊎ (NonalignedPair x y ⊎ CrossOperands x y)))
 
 -- a packet claims more than the chip has in one cycle: a unit, a data path, memory, a cross path, or reads of a register
 abbrev pub Overclaims : List Instruction → Type 0
@@ -30,7 +30,7 @@ RunOf lawful ps run = Run lawful lawful (May ps) (length ps - 1) run
 -- what holds of accepted packets
 pub record Sound (lawful : Valuations) (ps : List (List Instruction)) : Type 0 where
   -- no packet claims more than the chip has
-  pub claims : (k : ℕ) (p : List Instruction) → at ps k ≡ Some p → Overclaims p → ⊥
+  pub claims : (k : ℕ) (p : List Instruction) → slice_get ps k ≡ Some p → Overclaims p → ⊥
   -- no two results meet at a write port
   pub ports : (k s l t : ℕ) (x y : Instruction) → Stands ps k s x → Stands ps l t y → (k ≡ l → s ≢ t) → SamePort (port_claim x (issue ps k)) (port_claim y (issue ps l)) → ⊥
   -- in no run do two performed writes of a register land in one cycle
