@@ -1,21 +1,14 @@
 // Two instructions that clash or do not, kind by kind, and the first clash of a packet.
-use admission::admit::admit;
+use crate::records::instruction;
 use admission::instruction::Instruction;
 use claims::claim::{Claim, first_clash};
 use claims::kinds::{AlignmentClaim, CrossPathClaim, DataPathClaim, NopClaim, UnitClaim};
 use claims::port::PortClaim;
 use claims::write::WriteClaim;
-use isa::built_in::BuiltIn;
-use isa::record::Record;
 use runs::valuations::Valuations;
 use std::test::Fail;
 
 const ALL: Valuations = Valuations { bits: u64::MAX };
-
-fn instruction(bytes: [u8; 8]) -> Result<Instruction, Fail> {
-    let (record, _) = Record::read(&bytes)?;
-    Ok(admit(&BuiltIn, record)?)
-}
 
 fn nop(count: u8) -> Result<Instruction, Fail> {
     instruction([0, 0, 0, 0, 255, 255, 255, count])
@@ -23,15 +16,15 @@ fn nop(count: u8) -> Result<Instruction, Fail> {
 
 #[test]
 fn units_and_nops(rt: HostRuntime) -> Result<(), Fail> {
-    let add = UnitClaim(instruction([1, 2, 0, 0, 0, 1, 2, 0])?);
-    let shift = UnitClaim(instruction([6, 2, 0, 0, 255, 3, 4, 0])?);
-    let other = UnitClaim(instruction([6, 6, 0, 0, 255, 35, 36, 0])?);
+    let add = UnitClaim::new(instruction([1, 2, 0, 0, 0, 1, 2, 0])?);
+    let shift = UnitClaim::new(instruction([6, 2, 0, 0, 255, 3, 4, 0])?);
+    let other = UnitClaim::new(instruction([6, 6, 0, 0, 255, 35, 36, 0])?);
     assert!(rt; add.clashes(&shift));
     assert!(rt; !add.clashes(&other));
-    assert!(rt; !UnitClaim(nop(1)?).clashes(&UnitClaim(nop(1)?)));
-    assert!(rt; NopClaim(nop(2)?).clashes(&NopClaim(nop(2)?)));
-    assert!(rt; NopClaim(nop(2)?).clashes(&NopClaim(nop(9)?)));
-    assert!(rt; !NopClaim(nop(1)?).clashes(&NopClaim(nop(9)?)));
+    assert!(rt; !UnitClaim::new(nop(1)?).clashes(&UnitClaim::new(nop(1)?)));
+    assert!(rt; NopClaim::new(nop(2)?).clashes(&NopClaim::new(nop(2)?)));
+    assert!(rt; NopClaim::new(nop(2)?).clashes(&NopClaim::new(nop(9)?)));
+    assert!(rt; !NopClaim::new(nop(1)?).clashes(&NopClaim::new(nop(9)?)));
     Ok(())
 }
 
@@ -42,22 +35,22 @@ fn memory(rt: HostRuntime) -> Result<(), Fail> {
     let apart = instruction([15, 8, 4, 0, 255, 32, 33, 0])?;
     let nonaligned = instruction([17, 8, 4, 0, 255, 32, 33, 0])?;
     let add = instruction([1, 8, 0, 0, 32, 33, 34, 0])?;
-    assert!(rt; DataPathClaim(load).clashes(&DataPathClaim(same)));
-    assert!(rt; !DataPathClaim(load).clashes(&DataPathClaim(apart)));
-    assert!(rt; !DataPathClaim(load).clashes(&DataPathClaim(add)));
-    assert!(rt; AlignmentClaim(load).clashes(&AlignmentClaim(nonaligned)));
-    assert!(rt; !AlignmentClaim(load).clashes(&AlignmentClaim(apart)));
-    assert!(rt; !AlignmentClaim(add).clashes(&AlignmentClaim(nonaligned)));
+    assert!(rt; DataPathClaim::new(load).clashes(&DataPathClaim::new(same)));
+    assert!(rt; !DataPathClaim::new(load).clashes(&DataPathClaim::new(apart)));
+    assert!(rt; !DataPathClaim::new(load).clashes(&DataPathClaim::new(add)));
+    assert!(rt; AlignmentClaim::new(load).clashes(&AlignmentClaim::new(nonaligned)));
+    assert!(rt; !AlignmentClaim::new(load).clashes(&AlignmentClaim::new(apart)));
+    assert!(rt; !AlignmentClaim::new(add).clashes(&AlignmentClaim::new(nonaligned)));
     Ok(())
 }
 
 #[test]
 fn cross_paths(rt: HostRuntime) -> Result<(), Fail> {
-    let first = CrossPathClaim(instruction([4, 2, 2, 0, 255, 32, 0, 0])?);
-    let other = CrossPathClaim(instruction([4, 1, 2, 0, 255, 33, 1, 0])?);
-    let same = CrossPathClaim(instruction([4, 1, 2, 0, 255, 32, 1, 0])?);
-    let opposite = CrossPathClaim(instruction([4, 5, 2, 0, 255, 1, 33, 0])?);
-    let plain = CrossPathClaim(instruction([4, 1, 0, 0, 255, 3, 1, 0])?);
+    let first = CrossPathClaim::new(instruction([4, 2, 2, 0, 255, 32, 0, 0])?);
+    let other = CrossPathClaim::new(instruction([4, 1, 2, 0, 255, 33, 1, 0])?);
+    let same = CrossPathClaim::new(instruction([4, 1, 2, 0, 255, 32, 1, 0])?);
+    let opposite = CrossPathClaim::new(instruction([4, 5, 2, 0, 255, 1, 33, 0])?);
+    let plain = CrossPathClaim::new(instruction([4, 1, 0, 0, 255, 3, 1, 0])?);
     assert!(rt; first.clashes(&other));
     assert!(rt; !first.clashes(&same));
     assert!(rt; !first.clashes(&opposite));
@@ -103,8 +96,8 @@ fn writes(rt: HostRuntime) -> Result<(), Fail> {
 // The later place is the least that clashes, its partner the first; places before `from` are no later places.
 #[test]
 fn first_of_many(rt: HostRuntime) -> Result<(), Fail> {
-    let s1 = UnitClaim(instruction([1, 2, 0, 0, 0, 1, 2, 0])?);
-    let l1 = UnitClaim(instruction([1, 1, 0, 0, 0, 1, 2, 0])?);
+    let s1 = UnitClaim::new(instruction([1, 2, 0, 0, 0, 1, 2, 0])?);
+    let l1 = UnitClaim::new(instruction([1, 1, 0, 0, 0, 1, 2, 0])?);
     let packet = [l1, s1, s1, s1, l1];
     let Some(first) = first_clash(&packet, 0) else {
         return Err(Fail::new("no clash"));

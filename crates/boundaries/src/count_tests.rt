@@ -1,17 +1,10 @@
 // The two counts of a packet at their limits, and its length.
-use admission::admit::admit;
+use crate::records::instruction;
 use admission::instruction::Instruction;
 use hazards::counts::{CrossPathUses, RegisterReads};
 use hazards::fault::first_slot;
 use hazards::length::packet_length;
-use isa::built_in::BuiltIn;
-use isa::record::Record;
 use std::test::Fail;
-
-fn instruction(bytes: [u8; 8]) -> Result<Instruction, Fail> {
-    let (record, _) = Record::read(&bytes)?;
-    Ok(admit(&BuiltIn, record)?)
-}
 
 // MV of A0 over the cross path to .L2, .S2 and .D2: two are allowed, the third is not.
 #[test]

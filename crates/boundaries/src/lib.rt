@@ -10,4 +10,6 @@ mod count_tests;
 #[cfg(test)]
 mod file_tests;
 #[cfg(test)]
+mod records;
+#[cfg(test)]
 mod run_tests;

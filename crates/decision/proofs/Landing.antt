@@ -9,7 +9,8 @@ use Rattle.admission.specs.declared.instruction.Instruction.{Instruction}
 use Rattle.admission.specs.declared.instruction.Write.{Write}
 use Rattle.admission.specs.Operands.{write_places}
 use Rattle.runs.specs.Valuations.{place}
-use Rattle.constraints.specs.Schedules.{cycles, issue, Writes, Lands, register_number, Tested, May, Stalls}
+use Rattle.isa.specs.Conditions.{register_number}
+use Rattle.constraints.specs.Schedules.{cycles, issue, Writes, Lands, Tested, May, Stalls}
 use Rattle.constraints.specs.Constraints.{WriteTogether}
 use Rattle.decision.proofs.Deciding.{Test, like, both, all_three, equal, less, at_most, is_true, is_false, optional, given, Somewhere, some, below}
 use Rattle.decision.proofs.Clashing.{one_register}
