@@ -1,35 +1,24 @@
 // A row file as a repertoire, over the caller's bytes.
-ghost use Rattle.std.specs.Prelude.{◌≡◌, ℕ, ◌+◌, ◌<◌, true, [], length, is_some, IfOk, Decides, MatchOption, MatchResult, slice_index_or};
-ghost use Rattle.rowfile.specs.Entries.{operation, row_of};
-ghost use Rattle.rowfile.specs.Files.{entries, entries_map, Sized, LaidOut, WellFormed, RefusedFile, MapOfFile};
-ghost use Rattle.rowfile.specs.Lawfulness.{entries_lawful};
+ghost use Rattle.std.specs.Prelude.{◌≡◌, ◌↔◌, All, IsTrue, IsSome, IfOk, MatchOption, MatchResult};
+ghost use Rattle.rowfile.specs.Entries.{row_of};
+ghost use Rattle.rowfile.specs.Files.{entries, entries_map, Rising, Sized, LaidOut, WellFormed, RefusedFile, MapOfFile};
 
 use crate::entry::read_row;
 use isa::refusal::Refusal;
 use isa::repertoire::Repertoire;
 use isa::row::Row;
 
+// The entries of a file that is well formed.
 #[derive(Clone, Copy)]
 pub struct RowFile<'a> {
     pub(crate) entries: &'a [[u8; 8]],
-}
-
-// The row of the first entry whose number is not below the one sought, if it is that number.
-fn find_row(entries: &[[u8; 8]], operation: u8) -> Option<Row>
-    ensures value { result ≡ entries_map entries.now operation }
-{
-    for entry in entries {
-        if entry[0] >= operation {
-            if entry[0] > operation {
-                return None;
-            }
-            return read_row(entry);
-        }
-    }
-    None
+    ghost rising: { Rising entries.now },
 }
 
 impl<'a> Repertoire for RowFile<'a> {
+    ghost use Rattle.rowfile.specs.Files.{entries_map};
+    ghost use Rattle.rowfile.specs.Lawfulness.{entries_lawful};
+
     ghost map = { λ f. entries_map f.entries.now };
 
     ghost lawful = { λ f. entries_lawful f.entries.now };
@@ -39,28 +28,29 @@ impl<'a> Repertoire for RowFile<'a> {
     }
 }
 
+// The row of an operation among entries whose numbers rise.
+fn find_row(entries: &[[u8; 8]], operation: u8) -> Option<Row>
+    requires { Rising entries.now }
+    ensures { result ≡ entries_map entries.now operation }
+{
+    match entries.binary_search_by_key(&operation, |entry| entry[0]) {
+        Ok(place) => read_row(&entries[place]),
+        Err(_) => None,
+    }
+}
+
 // Whether every entry has a row.
 fn all_readable(entries: &[[u8; 8]]) -> bool
-    ensures value { Decides result ((i : ℕ) → i < length entries.now → is_some (row_of (slice_index_or entries.now i [])) ≡ true) }
+    ensures { IsTrue result ↔ All (λ e. IsSome (row_of e)) entries.now }
 {
-    for entry in entries {
-        if read_row(entry).is_none() {
-            return false;
-        }
-    }
-    true
+    entries.iter().all(|entry| read_row(entry).is_some())
 }
 
 // Whether the numbers rise strictly.
 fn all_rising(entries: &[[u8; 8]]) -> bool
-    ensures value { Decides result ((i : ℕ) → i + 1 < length entries.now → operation (slice_index_or entries.now i []) < operation (slice_index_or entries.now (i + 1) [])) }
+    ensures { IsTrue result ↔ Rising entries.now }
 {
-    for i in 1..entries.len() {
-        if entries[i - 1][0] >= entries[i][0] {
-            return false;
-        }
-    }
-    true
+    entries.is_sorted_by(|earlier, later| earlier[0] < later[0])
 }
 
 // The entries of a file whose count and length agree.
@@ -84,13 +74,8 @@ impl<'a> RowFile<'a> {
         if bytes.len() < 2 || bytes.len() > 65536 {
             return Err(Refusal::FileSize);
         }
-        let Some(entries) = laid_out(bytes) else {
-            return Err(Refusal::RowFileLayout);
-        };
-        if !all_readable(entries) {
-            return Err(Refusal::RowFileLayout);
-        }
-        if !all_rising(entries) {
+        let entries = laid_out(bytes).ok_or(Refusal::RowFileLayout)?;
+        if !all_readable(entries) || !all_rising(entries) {
             return Err(Refusal::RowFileLayout);
         }
         Ok(RowFile { entries })

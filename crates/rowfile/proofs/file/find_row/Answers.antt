@@ -1,15 +1,16 @@
-use Rattle.std.proofs.Common.{◌∙◌, arith}
-use Rattle.rowfile.proofs.Lookups.{none_left, below, past, here}
+use Rattle.std.proofs.Common.{Ok, Err, sym, ◌∙◌, rules}
+use Rattle.std.proofs.lemmas.List.Sorted.{answers_always}
+use Rattle.rowfile.specs.Entries.{operation}
+use Rattle.rowfile.proofs.Lookups.{searched}
 use Rattle.rowfile.proofs.file.find_row.Goals as goal
 
-pub returns-then-entry-operation-2 : goal.returns-then-entry-operation-2
-returns-then-entry-operation-2 c = record { value = past _ _ _ c.loop-entry.invariant c.loop-entry-test.true c.if-entry-operation-2.true }
+-- the closure gives an entry's number
+pub returns-in-Ok : goal.returns-in-Ok
+returns-in-Ok c =
+    let by_key = c.in-Ok.ensures.position operation (answers_always _ _ _ (λ f a r g called. search rules)) in
+    c.read_row.ensures.value ∙ sym (searched _ c.requires c.args.operation (Ok _) c.in-Ok.ensures.bound by_key)
 
-pub returns-then-entry-operation : goal.returns-then-entry-operation
-returns-then-entry-operation c = record { value = c.read_row.ensures.value ∙ here _ _ _ c.loop-entry.invariant c.loop-entry-test.true (omega arith) }
-
-pub loop-entry-preserved : goal.loop-entry-preserved
-loop-entry-preserved c = below _ _ _ c.loop-entry.invariant c.loop-entry-test.true c.if-entry-operation.false
-
-pub returns : goal.returns
-returns c = record { value = none_left _ _ _ c.loop-entry.invariant c.loop-entry-test.false }
+pub returns-in-Err : goal.returns-in-Err
+returns-in-Err c =
+    let by_key = c.in-Err.ensures.position operation (answers_always _ _ _ (λ f a r g called. search rules)) in
+    sym (searched _ c.requires c.args.operation (Err _) c.in-Err.ensures.bound by_key)
