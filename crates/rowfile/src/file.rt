@@ -1,5 +1,5 @@
 // A row file as a repertoire, over the caller's bytes.
-ghost use Rattle.std.specs.Prelude.{◌≡◌, ◌↔◌, All, IsTrue, IsSome, IfOk, MatchOption, MatchResult};
+ghost use Rattle.std.specs.Prelude.{◌≡◌, ◌↔◌, All, IsTrue, IsSome, IfSome, IfOk, MatchResult};
 ghost use Rattle.rowfile.specs.Entries.{row_of};
 ghost use Rattle.rowfile.specs.Files.{entries, entries_map, Rising, Sized, LaidOut, WellFormed, RefusedFile, MapOfFile};
 
@@ -55,11 +55,14 @@ fn all_rising(entries: &[[u8; 8]]) -> bool
 
 // The entries of a file whose count and length agree.
 fn laid_out(bytes: &[u8]) -> Option<&[[u8; 8]]>
-    requires { Sized bytes.now }
-    ensures cases { MatchOption result (LaidOut bytes.now → ⊥) (λ e. LaidOut bytes.now × (e.now ≡ entries bytes.now)) }
+    ensures laid { IsSome result ↔ LaidOut bytes.now }
+    ensures entries { IfSome result (λ e. e.now ≡ entries bytes.now) }
 {
-    let count = usize::from(bytes[0]) + 256 * usize::from(bytes[1]);
-    let (entries, rest) = bytes[2..].as_chunks::<8>();
+    let [low, high, body @ ..] = bytes else {
+        return None;
+    };
+    let count = usize::from(u16::from_le_bytes([*low, *high]));
+    let (entries, rest) = body.as_chunks::<8>();
     if count == 0 || count > 256 || entries.len() != count || !rest.is_empty() {
         return None;
     }
