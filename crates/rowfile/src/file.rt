@@ -2,6 +2,7 @@
 ghost use Rattle.std.specs.Prelude.{◌≡◌, ◌↔◌, All, IsTrue, IsSome, IfSome, IfOk, MatchResult};
 ghost use Rattle.rowfile.specs.Entries.{row_of};
 ghost use Rattle.rowfile.specs.Files.{entries, entries_map, Rising, Sized, LaidOut, WellFormed, RefusedFile, MapOfFile};
+ghost use Rattle.rowfile.specs.Lawfulness.{entries_lawful};
 
 use crate::entry::read_row;
 use isa::refusal::Refusal;
@@ -16,26 +17,18 @@ pub struct RowFile<'a> {
 }
 
 impl<'a> Repertoire for RowFile<'a> {
-    ghost use Rattle.rowfile.specs.Files.{entries_map};
-    ghost use Rattle.rowfile.specs.Lawfulness.{entries_lawful};
-
     ghost map = { λ f. entries_map f.entries.now };
 
     ghost lawful = { λ f. entries_lawful f.entries.now };
 
     fn row(&self, operation: u8) -> Option<Row> {
-        find_row(self.entries, operation)
-    }
-}
-
-// The row of an operation among entries whose numbers rise.
-fn find_row(entries: &[[u8; 8]], operation: u8) -> Option<Row>
-    requires { Rising entries.now }
-    ensures { result ≡ entries_map entries.now operation }
-{
-    match entries.binary_search_by_key(&operation, |entry| entry[0]) {
-        Ok(place) => read_row(&entries[place]),
-        Err(_) => None,
+        match self
+            .entries
+            .binary_search_by_key(&operation, |entry| entry[0])
+        {
+            Ok(place) => read_row(&self.entries[place]),
+            Err(_) => None,
+        }
     }
 }
 
