@@ -7,11 +7,11 @@ use Rattle.rowfile.proofs.listing.put_entry.Goals as goal
 pub returns-in-Some : goal.returns-in-Some
 unfolding entry_line
 returns-in-Some c =
-    let e = ap (line_of (operation c.args.entry.now)) c.in-Some.ensures.value in
+    let e = ap (line_of (operation c.args.entry.now)) c.in-Some.ensures in
     record { adds = adds_is e c.put_row.ensures.adds; short = subst (λ t. length t ≤ 96) e c.put_row.ensures.short }
 
 pub returns-in_default : goal.returns-in_default
 unfolding entry_line
 returns-in_default c =
-    let e = ap (line_of (operation c.args.entry.now)) c.in_default.ensures.value in
+    let e = ap (line_of (operation c.args.entry.now)) c.in_default.ensures in
     record { adds = adds_is e (adds_none _); short = subst (λ t. length t ≤ 96) e (omega arith) }
