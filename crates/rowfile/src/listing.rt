@@ -1,6 +1,7 @@
 // A row file in words: the count of rows, then a line for each.
-ghost use Rattle.std.specs.Prelude.{◌≡◌, ℕ, ◌+◌, ◌*◌, ◌≤◌, true, List, length, is_ok, MatchResult};
+ghost use Rattle.std.specs.Prelude.{◌≡◌, ℕ, ◌+◌, ◌*◌, ◌≤◌, List, length, IsOk, OnOk, MatchResult};
 ghost use Rattle.isa.specs.Refusals.{number};
+ghost use Rattle.rowfile.specs.declared.listing.TheConstants.{LISTING_BYTES};
 ghost use Rattle.rowfile.specs.Listings.{Adds, Room, alignment_text, unit_text, side_text, units_text, tail_text, head_text, row_line, entry_line, entry_lines, count_line, rows_text, refused_text, Printed};
 
 use crate::entry::read_row;
@@ -127,22 +128,15 @@ fn refused_text(refusal: Refusal) -> ArrayString<32>
     line
 }
 
-// Adds a text. There is room for it, so that memory is not asked for.
-fn put(out: &mut Vec<u8>, text: &str)
-    requires { Room out.old (length text.now) }
-    ensures { Adds out.old out.new text.now }
+fn put_rows(out: &mut Vec<u8>, entries: &[[u8; 8]]) -> Result<(), AllocError>
+    ensures adds { OnOk result (Adds out.old out.new (rows_text entries.now)) }
+    ensures succeeds { Room out.old (96 * (1 + length entries.now)) → IsOk result }
 {
-    let _ = out.extend_from_slice(text.as_bytes());
-}
-
-fn put_rows(out: &mut Vec<u8>, entries: &[[u8; 8]])
-    requires { Room out.old (96 * (1 + length entries.now)) }
-    ensures { Adds out.old out.new (rows_text entries.now) }
-{
-    put(out, count_line(entries.len()).as_str());
+    out.extend_from_slice(count_line(entries.len()).as_bytes())?;
     for entry in entries {
-        put(out, entry_line(entry).as_str());
+        out.extend_from_slice(entry_line(entry).as_bytes())?;
     }
+    Ok(())
 }
 
 // The room that every listing fits into: 256 rows and the line before them, 96 bytes each.
@@ -151,12 +145,11 @@ pub const LISTING_BYTES: usize = 24_672;
 // Adds what a file says in words: its rows, or why it is refused.
 pub fn list_rows(bytes: &[u8], out: &mut Vec<u8>) -> Result<(), AllocError>
     ensures text { MatchResult result (λ _. (t : List ℕ) × Printed bytes.now t × Adds out.old out.new t) (λ _. out.new.items ≡ out.old.items) }
-    ensures succeeds { Room out.old 24672 → is_ok result ≡ true }
+    ensures succeeds { Room out.old LISTING_BYTES → IsOk result }
 {
     out.reserve(LISTING_BYTES)?;
     match RowFile::read(bytes) {
         Ok(file) => put_rows(out, file.entries),
-        Err(refusal) => put(out, refused_text(refusal).as_str()),
+        Err(refusal) => out.extend_from_slice(refused_text(refusal).as_bytes()),
     }
-    Ok(())
 }
