@@ -1,4 +1,5 @@
-// A row file in words: the count of rows, then a line for each.
+// A row file in words: the count of rows, then a line for each. A line is made on the stack, in a text of a type that
+// has room for the longest: a `write!` is not known to succeed where there is room, and `push_str` is.
 ghost use Rattle.std.specs.Prelude.{◌≡◌, ℕ, ◌+◌, ◌*◌, ◌≤◌, List, length, IsOk, OnOk, MatchResult};
 ghost use Rattle.isa.specs.Refusals.{number};
 ghost use Rattle.rowfile.specs.declared.listing.TheConstants.{LISTING_BYTES};
@@ -31,10 +32,9 @@ fn side_text(units: Units, side: Side) -> ArrayString<16>
     ensures { result.bytes ≡ side_text units side }
 {
     let mut text = ArrayString::new();
-    text.push_str(unit_text(units, UnitKind::L, side).as_str());
-    text.push_str(unit_text(units, UnitKind::S, side).as_str());
-    text.push_str(unit_text(units, UnitKind::M, side).as_str());
-    text.push_str(unit_text(units, UnitKind::D, side).as_str());
+    for kind in [UnitKind::L, UnitKind::S, UnitKind::M, UnitKind::D] {
+        text.push_str(unit_text(units, kind, side).as_str());
+    }
     text
 }
 
@@ -67,12 +67,10 @@ fn tail_text(row: Row) -> ArrayString<32>
 {
     let mut text = ArrayString::new();
     text.push_str(alignment_text(row.nonaligned));
-    text.push_str(" ");
-    text.push_str(row.s1.name());
-    text.push_str(" ");
-    text.push_str(row.s2.name());
-    text.push_str(" ");
-    text.push_str(row.dst.name());
+    for width in [row.s1, row.s2, row.dst] {
+        text.push_str(" ");
+        text.push_str(width.name());
+    }
     text.push_str("\n");
     text
 }
