@@ -1,11 +1,12 @@
 -- A lookup among entries whose numbers rise: at the place of a number, and where no entry has it. Assumes nothing.
-use Rattle.std.proofs.Common.{◌≡◌, ◌≢◌, ℕ, zero, suc, ◌<◌, ◌≤◌, Bool, true, false, cond, eqb, ltb, List, [], ◌∷◌, length, get_or, None, Option, Result, Ok, Err, MatchResult, IsTrue, ◌↔◌, nat_lt, sym, refl, ap, ◌∙◌, ap₂, suc-le-suc, zero-le, le_of_suc-le-suc, not-suc-le-zero, add-one, arith, le-ltb, lt-ltb, eq-eqb, eqb-true}
+use Rattle.std.proofs.Common.{◌≡◌, ◌≢◌, ℕ, zero, suc, ◌<◌, ◌≤◌, Bool, true, false, cond, eqb, ltb, List, [], ◌∷◌, length, get_or, Some, None, Option, Result, Ok, Err, MatchResult, IsTrue, ◌↔◌, nat_lt, sym, refl, ap, ◌∙◌, ap₂, suc-le-suc, zero-le, le_of_suc-le-suc, not-suc-le-zero, add-one, arith, le-ltb, lt-ltb, eq-eqb, eqb-true}
 use Rattle.std.specs.List.{IsAllAdjacentAnswer}
 use Rattle.std.specs.List.Sorted.{IsSearchInRange, IsBinarySearchResult, IsNonDecreasingBy}
 use Rattle.std.specs.Ordering.{nat_cmp, ordering_index}
 use Rattle.std.proofs.lemmas.Cmp.{ranked}
 use Rattle.std.proofs.lemmas.List.Sorted.{IsNonDecreasingBy-from_all_adjacent}
 use Rattle.std.proofs.lemmas.Bool.Decides.{nat_tests}
+use Rattle.std.proofs.lemmas.Option.{none-some}
 use Rattle.isa.specs.declared.row.Row.{Row}
 use Rattle.rowfile.specs.Entries.{operation, row_of}
 use Rattle.rowfile.specs.Files.{entries_map, Rising}
@@ -37,15 +38,24 @@ at_place (e ∷ es) r n (suc i) h a =
 pub present : (es : List (List ℕ)) → Rising es → (n i : ℕ) → i < length es → operation (get_or es i []) ≡ n → entries_map es n ≡ row_of (get_or es i [])
 present es r = at_place es (rises es r)
 
--- a number that no entry has is not found
-absent_by : (e : List ℕ) (es : List (List ℕ)) (n : ℕ) (b c : Bool) → eqb (operation e) n ≡ c → operation e ≢ n → entries_map es n ≡ None → answer (entries_map es n) (row_of e) b c ≡ None
-absent_by e es n true c q other more = more
-absent_by e es n false true q other more = absurd (other (eqb-true _ _ q))
-absent_by e es n false false q other more = refl
+-- the entries list n with the row w
+abbrev pub Listed : List (List ℕ) → ℕ → Row → Type 0
+Listed es n w = (i : ℕ) × (i < length es) × (operation (get_or es i []) ≡ n) × (row_of (get_or es i []) ≡ Some w)
 
-absent : (es : List (List ℕ)) (n : ℕ) → ((i : ℕ) → i < length es → operation (get_or es i []) ≢ n) → entries_map es n ≡ None
-absent [] n other = refl
-absent (e ∷ es) n other = absent_by e es n (ltb (operation e) n) (eqb (operation e) n) refl (other 0 (suc-le-suc zero-le)) (absent es n (λ i h. other (suc i) (suc-le-suc h)))
+found_by : (e : List ℕ) (es : List (List ℕ)) (n : ℕ) (w : Row) (b c : Bool) → eqb (operation e) n ≡ c → (entries_map es n ≡ Some w → Listed es n w) → answer (entries_map es n) (row_of e) b c ≡ Some w → Listed (e ∷ es) n w
+found_by e es n w true c q more f = let (i, h, a, r) = more f in (suc i, suc-le-suc h, a, r)
+found_by e es n w false true q more f = (0, suc-le-suc zero-le, eqb-true _ _ q, f)
+found_by e es n w false false q more f = absurd (none-some w f)
+
+-- what is found is listed
+pub found : (es : List (List ℕ)) (n : ℕ) (w : Row) → entries_map es n ≡ Some w → Listed es n w
+found [] n w f = absurd (none-some w f)
+found (e ∷ es) n w f = found_by e es n w (ltb (operation e) n) (eqb (operation e) n) refl (found es n w) f
+
+-- a number that no entry has is not found
+absent : (es : List (List ℕ)) (n : ℕ) → ((i : ℕ) → i < length es → operation (get_or es i []) ≢ n) → (o : Option Row) → entries_map es n ≡ o → o ≡ None
+absent es n other None e = refl
+absent es n other (Some w) e = let (i, h, a, f) = found es n w e in absurd (other i h a)
 
 module _ (es : List (List ℕ)) (rising : Rising es) (n : ℕ) where
   -- the comparisons with n rise along the entries, as a binary search asks
@@ -61,7 +71,7 @@ module _ (es : List (List ℕ)) (rising : Rising es) (n : ℕ) where
       let parts = parted comparisons_rise in
       let before : (i : ℕ) → i < at → operation (get_or es i []) < n = λ i lt. ranked _ n _ (sym (parts.0 i [] (omega arith) lt)) in
       let after : (i : ℕ) → at ≤ i → i < length es → n < operation (get_or es i []) = λ i le lt. ranked _ n _ (sym (parts.1 i [] le lt)) in
-      absent es n (λ i h same. grind (arith, before i, after i))
+      absent es n (λ i h same. grind (arith, before i, after i)) (entries_map es n) refl
 
 -- neighbours that a test passes one by one, or not
 pub rising_answer : (es : List (List ℕ)) (r : Bool) → IsAllAdjacentAnswer (λ d e b. b ≡ nat_lt (operation d) (operation e)) es r → IsTrue r ↔ Rising es

@@ -44,13 +44,13 @@ abbrev pub width_text : Width → List ℕ
 width_text w = codes " " ++ width_name w
 
 -- nonaligned or not
-abbrev pub alignment_text : Bool → List ℕ
-alignment_text true = codes ", nonaligned, widths"
-alignment_text false = codes ", aligned, widths"
+abbrev pub alignment_name : Bool → List ℕ
+alignment_name true = codes ", nonaligned, widths"
+alignment_name false = codes ", aligned, widths"
 
 -- nonaligned or not, and the widths of s1, s2 and dst
 abbrev pub tail_text : Row → List ℕ
-tail_text w = alignment_text w.nonaligned ++ (width_text w.s1 ++ (width_text w.s2 ++ (width_text w.dst ++ (10 ∷ []))))
+tail_text w = alignment_name w.nonaligned ++ (width_text w.s1 ++ (width_text w.s2 ++ (width_text w.dst ++ (10 ∷ []))))
 
 -- the number and the class in words
 abbrev pub head_text : ℕ → Class → List ℕ

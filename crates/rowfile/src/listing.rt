@@ -3,7 +3,7 @@
 ghost use Rattle.std.specs.Prelude.{◌≡◌, ℕ, ◌+◌, ◌*◌, ◌≤◌, List, length, IsOk, OnOk, MatchResult};
 ghost use Rattle.isa.specs.Refusals.{number};
 ghost use Rattle.rowfile.specs.declared.listing.TheConstants.{LISTING_BYTES};
-ghost use Rattle.rowfile.specs.Listings.{Adds, Room, alignment_text, unit_text, side_text, units_text, tail_text, head_text, row_line, entry_line, entry_lines, count_line, rows_text, refused_text, Printed};
+ghost use Rattle.rowfile.specs.Listings.{Adds, Room, alignment_name, unit_text, side_text, units_text, tail_text, head_text, row_line, entry_line, entry_lines, count_line, rows_text, refused_text, Printed};
 
 use crate::entry::read_row;
 use crate::file::RowFile;
@@ -51,8 +51,8 @@ fn units_text(units: Units) -> ArrayString<32>
     text
 }
 
-fn alignment_text(nonaligned: bool) -> &'static str
-    ensures text { result.now ≡ alignment_text nonaligned }
+fn alignment_name(nonaligned: bool) -> &'static str
+    ensures text { result.now ≡ alignment_name nonaligned }
     ensures short { length result.now ≤ 20 }
 {
     if nonaligned {
@@ -66,7 +66,7 @@ fn tail_text(row: Row) -> ArrayString<32>
     ensures { result.bytes ≡ tail_text row }
 {
     let mut text = ArrayString::new();
-    text.push_str(alignment_text(row.nonaligned));
+    text.push_str(alignment_name(row.nonaligned));
     for width in [row.s1, row.s2, row.dst] {
         text.push_str(" ");
         text.push_str(width.name());
