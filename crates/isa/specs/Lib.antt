@@ -6,6 +6,7 @@ pub mod Conditions
 pub mod Classes
 pub mod Widths
 pub mod Units
+pub mod Names
 pub mod Rows
 pub mod BuiltIn
 pub mod Lawfulness

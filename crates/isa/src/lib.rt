@@ -4,6 +4,7 @@
 pub mod built_in;
 pub mod class;
 pub mod condition;
+pub mod names;
 pub mod record;
 pub mod refusal;
 pub mod register;

@@ -1,4 +1,3 @@
 pub mod Lookups
 pub mod Layouts
 pub mod Listings
-pub mod Adding

@@ -1,6 +1,7 @@
 -- Row files: two bytes of count, then the entries, eight bytes each.
 -- A file is a repertoire in place: its map is what the entries list.
 use Rattle.std.specs.Prelude.{◌≡◌, ℕ, ◌+◌, ◌*◌, ◌<◌, ◌≤◌, true, cond, ◌⊎◌, List, [], ◌∷◌, length, take, drop, is_some, Some, None, Option, ◌==◌, nat_lt, slice_index}
+use Rattle.std.specs.List.{AllAdjacentBelow}
 use Rattle.std.specs.Simd.{first_chunks}
 use Rattle.isa.specs.declared.refusal.Refusal.{Refusal}
 use Rattle.isa.specs.declared.refusal.Refusal.TheVariants.{FileSize, RowFileLayout}
@@ -36,6 +37,10 @@ Lists bs n w = (i : ℕ) × (i < row_count bs) × (operation (entry bs i) ≡ n)
 -- the entries one by one
 abbrev pub entries : List ℕ → List (List ℕ)
 entries bs = first_chunks 8 (row_count bs) (drop 2 bs)
+
+-- the numbers rise strictly from each entry to the next
+abbrev pub Rising : List (List ℕ) → Type 0
+Rising es = AllAdjacentBelow (λ d e. operation d < operation e) es (length es)
 
 -- the row of n: that of the first entry whose number is not below n, if its number is n
 abbrev pub entries_map : List (List ℕ) → ℕ → Option Row

@@ -1,18 +1,17 @@
 -- A row file in words: the count of rows, then a line for each.
 use Rattle.std.specs.Prelude.{◌≡◌, ℕ, ◌+◌, ◌≤◌, Bool, true, false, cond, ◌⊎◌, List, [], ◌∷◌, ◌++◌, length, Some, None, vec_items, vec_len, vec_capacity, codes, decimal, Option, Vec}
+use Rattle.std.specs.List.{flat_map}
 use Rattle.std.specs.declared.alloc.Global.{Global}
 use Rattle.isa.specs.declared.class.Class.{Class}
-use Rattle.isa.specs.declared.class.Class.TheVariants.{Nop, SingleCycle, TwoCycle, FourCycle, Load, Store}
 use Rattle.isa.specs.declared.width.Width.{Width}
-use Rattle.isa.specs.declared.width.Width.TheVariants.{Absent, Single, Pair}
 use Rattle.isa.specs.declared.unit.Side.{Side}
 use Rattle.isa.specs.declared.unit.Side.TheVariants.{A, B}
 use Rattle.isa.specs.declared.unit.UnitKind.{UnitKind}
 use Rattle.isa.specs.declared.unit.UnitKind.TheVariants.{L, S, M, D}
-use Rattle.isa.specs.declared.unit.FunctionalUnit.{FunctionalUnit}
 use Rattle.isa.specs.declared.unit.Units.{Units}
 use Rattle.isa.specs.declared.row.Row.{Row}
 use Rattle.isa.specs.declared.refusal.Refusal.{Refusal}
+use Rattle.isa.specs.Names.{class_name, width_name, unit_name}
 use Rattle.isa.specs.Refusals.{number}
 use Rattle.isa.specs.Units.{permitted, some_unit}
 use Rattle.rowfile.specs.Entries.{operation, row_of}
@@ -28,48 +27,21 @@ pub record Adds (before after : Vec ℕ Global) (text : List ℕ) : Type 0 where
 abbrev pub Room : Vec ℕ Global → ℕ → Type 0
 Room v n = vec_len v + n ≤ vec_capacity v
 
--- the class in words
-abbrev pub class_name : Class → List ℕ
-class_name Nop = codes "NOP"
-class_name SingleCycle = codes "single cycle"
-class_name TwoCycle = codes "two cycle"
-class_name FourCycle = codes "four cycle"
-class_name Load = codes "load"
-class_name Store = codes "store"
-
--- a width as a digit, behind a space
-abbrev pub width_name : Width → List ℕ
-width_name Absent = codes " 0"
-width_name Single = codes " 1"
-width_name Pair = codes " 2"
-
--- the letter of a unit
-abbrev letter : UnitKind → List ℕ
-letter L = codes "L"
-letter S = codes "S"
-letter M = codes "M"
-letter D = codes "D"
-
--- the digit of a side
-abbrev digit : Side → List ℕ
-digit A = codes "1"
-digit B = codes "2"
-
--- a unit by its name, behind a space
-abbrev pub unit_name : FunctionalUnit → List ℕ
-unit_name f = codes " ." ++ (letter f.kind ++ digit f.side)
-
--- the name of a unit that is permitted
-unfoldable pub unit_text : Units → UnitKind → Side → List ℕ
-unit_text u k s = cond (permitted u (record { kind = k; side = s })) (unit_name (record { kind = k; side = s })) []
+-- the name of a unit that is permitted, behind a space
+abbrev pub unit_text : Units → UnitKind → Side → List ℕ
+unit_text u k s = cond (permitted u (record { kind = k; side = s })) (codes " " ++ unit_name (record { kind = k; side = s })) []
 
 -- the permitted units of one side
-unfoldable pub side_text : Units → Side → List ℕ
+abbrev pub side_text : Units → Side → List ℕ
 side_text u s = unit_text u L s ++ (unit_text u S s ++ (unit_text u M s ++ unit_text u D s))
 
 -- the permitted units by name, or ` none`
-unfoldable pub units_text : Units → List ℕ
+abbrev pub units_text : Units → List ℕ
 units_text u = cond (some_unit u) (side_text u A ++ side_text u B) (codes " none")
+
+-- a width, behind a space
+abbrev pub width_text : Width → List ℕ
+width_text w = codes " " ++ width_name w
 
 -- nonaligned or not
 abbrev pub alignment_name : Bool → List ℕ
@@ -77,15 +49,15 @@ alignment_name true = codes ", nonaligned, widths"
 alignment_name false = codes ", aligned, widths"
 
 -- nonaligned or not, and the widths of s1, s2 and dst
-unfoldable pub tail_text : Row → List ℕ
-tail_text w = alignment_name w.nonaligned ++ (width_name w.s1 ++ (width_name w.s2 ++ (width_name w.dst ++ (10 ∷ []))))
+abbrev pub tail_text : Row → List ℕ
+tail_text w = alignment_name w.nonaligned ++ (width_text w.s1 ++ (width_text w.s2 ++ (width_text w.dst ++ (10 ∷ []))))
 
 -- the number and the class in words
-unfoldable pub head_text : ℕ → Class → List ℕ
+abbrev pub head_text : ℕ → Class → List ℕ
 head_text n k = decimal n ++ (codes ": " ++ (class_name k ++ codes ", units"))
 
 -- `N: CLASS, units UNITS, ALIGNMENT, widths A B C`
-unfoldable pub row_line : ℕ → Row → List ℕ
+abbrev pub row_line : ℕ → Row → List ℕ
 row_line n w = head_text n w.class ++ (units_text w.units ++ tail_text w)
 
 -- the line of a row, where there is one
@@ -94,20 +66,23 @@ line_of n None = []
 line_of n (Some w) = row_line n w
 
 -- the line of an entry
-unfoldable pub entry_line : List ℕ → List ℕ
+abbrev pub entry_line : List ℕ → List ℕ
 entry_line e = line_of (operation e) (row_of e)
 
 -- the lines of entries, in their order
 abbrev pub entry_lines : List (List ℕ) → List ℕ
-entry_lines [] = []
-entry_lines (e ∷ es) = entry_line e ++ entry_lines es
+entry_lines es = flat_map entry_line es
+
+-- `rows N`
+abbrev pub count_line : ℕ → List ℕ
+count_line n = codes "rows " ++ (decimal n ++ (10 ∷ []))
 
 -- `rows N` and the lines
-unfoldable pub rows_text : List (List ℕ) → List ℕ
-rows_text es = codes "rows " ++ (decimal (length es) ++ ((10 ∷ []) ++ entry_lines es))
+abbrev pub rows_text : List (List ℕ) → List ℕ
+rows_text es = count_line (length es) ++ entry_lines es
 
 -- `file: refused N`
-unfoldable pub refused_text : ℕ → List ℕ
+abbrev pub refused_text : ℕ → List ℕ
 refused_text n = codes "file: refused " ++ (decimal n ++ (10 ∷ []))
 
 -- what is printed of a file: its rows, or why it is refused

@@ -9,7 +9,7 @@ use isa::width::Width;
 
 // The nonaligned mark that a byte names.
 fn mark_from_byte(byte: u8) -> Option<bool>
-    ensures value { result ≡ mark_of byte }
+    ensures { result ≡ mark_of byte }
 {
     match byte {
         0 => Some(false),
@@ -20,7 +20,7 @@ fn mark_from_byte(byte: u8) -> Option<bool>
 
 // The row that the bytes spell, or none where one of them is out of range.
 fn spelled_row(entry: &[u8; 8]) -> Option<Row>
-    ensures value { result ≡ spelled_row entry.now }
+    ensures { result ≡ spelled_row entry.now }
 {
     let [_, class, mask, mark, s1, s2, dst, last] = *entry;
     if last != 0 {
@@ -38,8 +38,7 @@ fn spelled_row(entry: &[u8; 8]) -> Option<Row>
 
 // The row of an entry, or none where a byte is out of range or the row breaks the rule.
 pub fn read_row(entry: &[u8; 8]) -> Option<Row>
-    ensures value { result ≡ row_of entry.now }
+    ensures { result ≡ row_of entry.now }
 {
-    let row = spelled_row(entry)?;
-    if row.keeps_rule() { Some(row) } else { None }
+    spelled_row(entry).filter(|row| row.keeps_rule())
 }

@@ -1,7 +1,7 @@
 // A row file as a repertoire, over the caller's bytes.
-ghost use Rattle.std.specs.Prelude.{◌≡◌, ℕ, ◌+◌, ◌<◌, true, [], length, is_some, IfOk, Decides, MatchOption, MatchResult, slice_index_or};
-ghost use Rattle.rowfile.specs.Entries.{operation, row_of};
-ghost use Rattle.rowfile.specs.Files.{entries, entries_map, Sized, LaidOut, WellFormed, RefusedFile, MapOfFile};
+ghost use Rattle.std.specs.Prelude.{◌≡◌, ◌↔◌, All, IsTrue, IsSome, IfSome, IfOk, MatchResult};
+ghost use Rattle.rowfile.specs.Entries.{row_of};
+ghost use Rattle.rowfile.specs.Files.{entries, entries_map, Rising, Sized, LaidOut, WellFormed, RefusedFile, MapOfFile};
 ghost use Rattle.rowfile.specs.Lawfulness.{entries_lawful};
 
 use crate::entry::read_row;
@@ -9,24 +9,11 @@ use isa::refusal::Refusal;
 use isa::repertoire::Repertoire;
 use isa::row::Row;
 
+// The entries of a file that is well formed.
 #[derive(Clone, Copy)]
 pub struct RowFile<'a> {
     pub(crate) entries: &'a [[u8; 8]],
-}
-
-// The row of the first entry whose number is not below the one sought, if it is that number.
-fn find_row(entries: &[[u8; 8]], operation: u8) -> Option<Row>
-    ensures value { result ≡ entries_map entries.now operation }
-{
-    for entry in entries {
-        if entry[0] >= operation {
-            if entry[0] > operation {
-                return None;
-            }
-            return read_row(entry);
-        }
-    }
-    None
+    ghost rising: { Rising entries.now },
 }
 
 impl<'a> Repertoire for RowFile<'a> {
@@ -35,41 +22,40 @@ impl<'a> Repertoire for RowFile<'a> {
     ghost lawful = { λ f. entries_lawful f.entries.now };
 
     fn row(&self, operation: u8) -> Option<Row> {
-        find_row(self.entries, operation)
+        match self
+            .entries
+            .binary_search_by_key(&operation, |entry| entry[0])
+        {
+            Ok(place) => read_row(&self.entries[place]),
+            Err(_) => None,
+        }
     }
 }
 
 // Whether every entry has a row.
 fn all_readable(entries: &[[u8; 8]]) -> bool
-    ensures value { Decides result ((i : ℕ) → i < length entries.now → is_some (row_of (slice_index_or entries.now i [])) ≡ true) }
+    ensures { IsTrue result ↔ All (λ e. IsSome (row_of e)) entries.now }
 {
-    for entry in entries {
-        if read_row(entry).is_none() {
-            return false;
-        }
-    }
-    true
+    entries.iter().all(|entry| read_row(entry).is_some())
 }
 
 // Whether the numbers rise strictly.
 fn all_rising(entries: &[[u8; 8]]) -> bool
-    ensures value { Decides result ((i : ℕ) → i + 1 < length entries.now → operation (slice_index_or entries.now i []) < operation (slice_index_or entries.now (i + 1) [])) }
+    ensures { IsTrue result ↔ Rising entries.now }
 {
-    for i in 1..entries.len() {
-        if entries[i - 1][0] >= entries[i][0] {
-            return false;
-        }
-    }
-    true
+    entries.is_sorted_by(|earlier, later| earlier[0] < later[0])
 }
 
 // The entries of a file whose count and length agree.
 fn laid_out(bytes: &[u8]) -> Option<&[[u8; 8]]>
-    requires { Sized bytes.now }
-    ensures cases { MatchOption result (LaidOut bytes.now → ⊥) (λ e. LaidOut bytes.now × (e.now ≡ entries bytes.now)) }
+    ensures laid { IsSome result ↔ LaidOut bytes.now }
+    ensures entries { IfSome result (λ e. e.now ≡ entries bytes.now) }
 {
-    let count = usize::from(bytes[0]) + 256 * usize::from(bytes[1]);
-    let (entries, rest) = bytes[2..].as_chunks::<8>();
+    let [low, high, body @ ..] = bytes else {
+        return None;
+    };
+    let count = usize::from(u16::from_le_bytes([*low, *high]));
+    let (entries, rest) = body.as_chunks::<8>();
     if count == 0 || count > 256 || entries.len() != count || !rest.is_empty() {
         return None;
     }
@@ -84,13 +70,8 @@ impl<'a> RowFile<'a> {
         if bytes.len() < 2 || bytes.len() > 65536 {
             return Err(Refusal::FileSize);
         }
-        let Some(entries) = laid_out(bytes) else {
-            return Err(Refusal::RowFileLayout);
-        };
-        if !all_readable(entries) {
-            return Err(Refusal::RowFileLayout);
-        }
-        if !all_rising(entries) {
+        let entries = laid_out(bytes).ok_or(Refusal::RowFileLayout)?;
+        if !all_readable(entries) || !all_rising(entries) {
             return Err(Refusal::RowFileLayout);
         }
         Ok(RowFile { entries })

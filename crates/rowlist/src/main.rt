@@ -7,15 +7,11 @@ use std::io::{Read, Write};
 // One byte more than a row file may have: what is longer is refused without being read to its end.
 const INPUT_BYTES: u64 = 65_537;
 
-fn run(rt: &HostRuntime) -> anyhow::Result<()> {
+fn main(rt: HostRuntime) -> anyhow::Result<()> {
     let mut file = Vec::new(rt.alloc());
     rt.stdin().take(INPUT_BYTES).read_to_end(&mut file)?;
     let mut text = Vec::with_capacity(rt.alloc(), LISTING_BYTES)?;
-    list_rows(file.as_slice(), &mut text)?;
-    rt.stdout().write_all(text.as_slice())?;
+    list_rows(&file, &mut text)?;
+    rt.stdout().write_all(&text)?;
     Ok(())
-}
-
-fn main(rt: HostRuntime) -> anyhow::Result<()> {
-    run(&rt)
 }
