@@ -27,12 +27,12 @@ fn spelled_row(entry: &[u8; 8]) -> Option<Row>
         return None;
     }
     Some(Row {
-        class: Class::from_byte(class)?,
+        class: Class::try_from(class).ok()?,
         units: Units { mask },
         nonaligned: mark_from_byte(mark)?,
-        s1: Width::from_byte(s1)?,
-        s2: Width::from_byte(s2)?,
-        dst: Width::from_byte(dst)?,
+        s1: Width::try_from(s1).ok()?,
+        s2: Width::try_from(s2).ok()?,
+        dst: Width::try_from(dst).ok()?,
     })
 }
 
