@@ -4,7 +4,6 @@ use Rattle.std.proofs.lemmas.Bool.{both_ways}
 use Rattle.isa.specs.Refusals.{number}
 use Rattle.admission.specs.declared.instruction.Instruction.{Instruction}
 use Rattle.admission.specs.Refusals.{RefusedBy, Least}
-use Rattle.bounded.specs.Listed.{listed}
 use Rattle.book.specs.Books.{Rules, more, with}
 use Rattle.checker.specs.Stands.{rules_of, Stands}
 use Rattle.checker.proofs.Taking.{meant_one, room_of, turned_by, after_turned, fit_small, taken, says_verdict, after_verdict, no_refusal, pushed}
@@ -43,7 +42,7 @@ returns-then-not-marks g c =
           let room : length b.accepted < 512 = room_of s.state b stands.fits going full (omega arith) in
           let told = c.complete.ensures.verdict b xs (record {
             going = going;
-            gathered = pushed b.held i (listed s.gathered) (listed c.push.new.self) stands.short stands.held c.push.ensures.entries ∙ sym one;
+            gathered = pushed b.held i s.gathered c.push.new.self stands.short stands.held c.push.ensures.entries ∙ sym one;
             room = room;
             stalls = stands.stalls;
             calm = stands.calm;
@@ -62,7 +61,7 @@ returns g c =
     let k : Rules = rules_of (g.R.Repertoire.map s.repertoire) s in
     let on : more r ≡ true = search rules in
     let lt = c.if-gathered-ge7.false in
-    let slice = ap length c.as_slice-gathered.ensures.entries in
+    let here = c.len-gathered.ensures.value in
     record {
       serves = λ b stands going full.
           let xs : List Instruction = with k b r in
@@ -76,7 +75,7 @@ returns g c =
             (fine, on, omega arith),
             record {
               fits = (going, omega arith, room);
-              held = pushed b.held i (listed s.gathered) (listed c.push-2.new.self) stands.short stands.held c.push-2.ensures.entries ∙ sym one;
+              held = pushed b.held i s.gathered c.push-2.new.self stands.short stands.held c.push-2.ensures.entries ∙ sym one;
               short = omega arith;
               stalls = stands.stalls;
               calm = stands.calm;

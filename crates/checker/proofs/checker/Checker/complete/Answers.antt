@@ -2,7 +2,6 @@ use Rattle.std.proofs.Common.{List, [], ◌∷◌, ◌++◌, sym, refl, subst, a
 use Rattle.std.proofs.lemmas.List.{length_push}
 use Rattle.admission.specs.declared.instruction.Instruction.{Instruction}
 use Rattle.runs.specs.declared.valuations.Valuations.{Valuations}
-use Rattle.bounded.specs.Listed.{listed}
 use Rattle.constraints.specs.Faults.{AcceptedAs, RefusedWith}
 use Rattle.flight.specs.Kept.{StandsFor}
 use Rattle.checker.proofs.Completing.{joins, same_lawful, as_count, one_at_most}
@@ -12,7 +11,7 @@ pub returns-in-Ok : goal.returns-in-Ok
 returns-in-Ok g c =
     let s = c.args.self.now in
     let h = s.history in
-    let lawful = same_lawful h (listed s.gathered) c.accept.new.self c.accept.result c.accept.ensures.cases in
+    let lawful = same_lawful h s.gathered c.accept.new.self c.accept.result c.accept.ensures.cases in
     record {
       verdict = λ b xs complete. (
         subst (λ (l : List Instruction). AcceptedAs h.lawful h.lawful b.accepted l c.in-Ok.accepted) complete.gathered (c.in-Ok.ensures.verdict h.lawful b.accepted complete.history),
@@ -24,7 +23,7 @@ returns-in-Ok g c =
             let room = complete.room in
             let many = complete.history.many in
             let longer = length_push b.accepted xs in
-            let joined = joins h (listed s.gathered) c.accept.new.self c.accept.result (omega arith) c.accept.ensures.cases in
+            let joined = joins h s.gathered c.accept.new.self c.accept.result (omega arith) c.accept.ensures.cases in
             record {
               fits = (complete.going, refl);
               held = c.clear.ensures.none;
