@@ -1,25 +1,19 @@
 -- The claims of entries, and the first clash among them. Assumes nothing.
-use Rattle.std.proofs.Common.{◌≡◌, ℕ, zero, suc, ◌<◌, List, [], ◌∷◌, map, length, get_or, sym, refl, ◌∙◌, subst₂, arith}
-use Rattle.std.proofs.lemmas.List.{length-map, get_or_default}
+use Rattle.std.proofs.Common.{ℕ, ◌<◌, List, [], ◌∷◌, map, length, sym, subst₂, arith}
+use Rattle.std.proofs.lemmas.List.{length-map, get_or-map}
 use Rattle.claims.specs.Claims.{ClashAt, FreeFrom, FirstClash}
-
-get_or_mapped : {X Y : Type 0} (f : X → Y) (xs : List X) (a : ℕ) (d : X) → get_or (map f xs) a (f d) ≡ f (get_or xs a d)
-get_or_mapped f [] a d = refl
-get_or_mapped f (x ∷ xs) zero d = refl
-get_or_mapped f (x ∷ xs) (suc a) d = get_or_mapped f xs a d
 
 module _ {X Y : Type 0} (f : X → Y) (clash : Y → Y → Type 0) (es : List X) where
   -- entries clash where their claims do
   abbrev pub Meet : X → X → Type 0
   Meet x y = clash (f x) (f y)
 
-  meet_of : (a b : ℕ) → ClashAt clash (map f es) a b → ClashAt Meet es a b
-  meet_of a b h d = subst₂ clash (get_or_mapped f es a d) (get_or_mapped f es b d) (h (f d))
+  module _ (a b : ℕ) (ha : a < length es) (hb : b < length es) where
+    meet_of : ClashAt clash (map f es) a b → ClashAt Meet es a b
+    meet_of h d = subst₂ clash (get_or-map f es a d (f d) ha) (get_or-map f es b d (f d) hb) (h (f d))
 
-  clash_of : (a b : ℕ) → a < length es → b < length es → X → ClashAt Meet es a b → ClashAt clash (map f es) a b
-  clash_of a b ha hb x h d =
-      let n = length-map es f in
-      subst₂ clash (sym (get_or_mapped f es a x) ∙ get_or_default (map f es) a (f x) d (omega arith)) (sym (get_or_mapped f es b x) ∙ get_or_default (map f es) b (f x) d (omega arith)) (h x)
+    clash_of : X → ClashAt Meet es a b → ClashAt clash (map f es) a b
+    clash_of x h d = subst₂ clash (sym (get_or-map f es a x d ha)) (sym (get_or-map f es b x d hb)) (h x)
 
   -- some entry, since there is one
   some_entry : (n : ℕ) → n < length es → X
@@ -42,7 +36,7 @@ module _ {X Y : Type 0} (f : X → Y) (clash : Y → Y → Type 0) (es : List X)
         reached = p.reached;
         inside = inside;
         ordered = ordered;
-        clashing = meet_of a b p.clashing;
+        clashing = meet_of a b (omega arith) inside p.clashing;
         least = λ k le h j lt at. p.least k le h j lt (clash_of j k (omega arith) (omega arith) (some_entry b inside) at);
         first = λ j lt at. p.first j lt (clash_of j b (omega arith) inside (some_entry b inside) at);
       }
