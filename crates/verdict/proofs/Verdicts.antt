@@ -110,10 +110,10 @@ breaks_low lawful start past xs n =
     (⊎_elim (λ (e, _). (omega arith, omega arith)) (λ (e, _). (omega arith, omega arith)))
 
 -- the entries of the packet, behind those in flight
-pub own_slots : (h : History) (start : Valuations) (past : List (List Instruction)) (xs : List Instruction) (all slice own : List InFlight) (from : ℕ) → StandsFor h start past → length xs ≤ 8
+pub own_slots : {h : History} {start : Valuations} {past : List (List Instruction)} {all slice own : List InFlight} {from : ℕ} (xs : List Instruction) → StandsFor h start past → length xs ≤ 8
     → from ≡ length h.flight → issues all ≡ issues h.flight ++ slots h.packets h.cycle 0 xs → slice ≡ all → own ≡ take 8 (take (length slice - from) (drop from slice))
     → issues own ≡ slots (length past) (cycles past) 0 xs
-own_slots h start past xs all slice own from stands short e made same cut =
+own_slots {h} {start} {past} {all} {slice} {own} {from} xs stands short e made same cut =
     let front = length-map h.flight (λ (z : InFlight). z.issued) in
     let behind : issues (drop from slice) ≡ slots h.packets h.cycle 0 xs =
     sym (drop-map (λ (z : InFlight). z.issued) from slice) ∙ ap (λ l. drop from (issues l)) same ∙ ap (drop from) made ∙ drop_at (issues h.flight) (slots h.packets h.cycle 0 xs) from (omega arith) in

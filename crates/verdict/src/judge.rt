@@ -50,6 +50,7 @@ fn flying(entries: &Bounded<InFlight, 48>, from: usize) -> Result<(), Fault>
 }
 
 // The verdict on a packet behind those accepted before it: the first constraint that it breaks, with both places, or when it issues, how long it takes and whether it stalls.
+#[tactic(auto, using(constraints::proofs::Reordering::slot_order_free))]
 pub fn judge(history: &History, packet: &Packet) -> Result<Accepted, Fault>
     ensures verdict { (start : Valuations) (past : List (List Instruction)) → StandsFor history.now start past → Judged history.now.lawful start past packet.now result }
     ensures order { SlotOrderFree }

@@ -1,4 +1,4 @@
-use Rattle.std.proofs.Common.{◌≡◌, ℕ, ◌+◌, ◌<◌, ◌≤◌, List, length, refl, inl, inr, arith}
+use Rattle.std.proofs.Common.{◌≡◌, ◌+◌, ◌<◌, ◌≤◌, List, length, refl, inl, inr, arith}
 use Rattle.std.proofs.lemmas.Result.{MatchResult-weaker}
 use Rattle.isa.specs.declared.refusal.Refusal.{Refusal}
 use Rattle.isa.specs.declared.refusal.Refusal.TheVariants.{UnitTwice, TwoLongNops, DataPathTwice, NonalignedAccess, CrossPathOperands}
@@ -10,7 +10,7 @@ use Rattle.claims.specs.Kinds as kinds
 use Rattle.claims.specs.Mutual.{same_unit_mutual, two_long_nops_mutual, same_data_path_mutual, nonaligned_pair_mutual, cross_operands_mutual}
 use Rattle.constraints.specs.declared.fault.Fault.{Fault}
 use Rattle.constraints.specs.Schedules.{cycles}
-use Rattle.constraints.specs.Constraints.{Breaks, Beside}
+use Rattle.constraints.specs.Constraints.{Beside}
 use Rattle.flight.specs.declared.issued.InFlight.{InFlight}
 use Rattle.flight.specs.Issues.{slots}
 use Rattle.flight.proofs.Stepping.{issues}
@@ -34,19 +34,19 @@ record Kind (refusal : Refusal) : Type 1 where
   from : (x y : Instruction) → Related x y → Beside (number refusal) x y
   swap : (x y : Instruction) → Related x y → Related y x
 
-units : Kind UnitTwice
+abbrev units : Kind UnitTwice
 units = record { least = omega arith; small = omega arith; Related = kinds.SameUnit; to = beside_unit; from = λ x y s. inl (refl, s); swap = same_unit_mutual }
 
-nops : Kind TwoLongNops
+abbrev nops : Kind TwoLongNops
 nops = record { least = omega arith; small = omega arith; Related = kinds.TwoLongNops; to = beside_nop; from = λ x y s. inr (inl (refl, s)); swap = two_long_nops_mutual }
 
-paths : Kind DataPathTwice
+abbrev paths : Kind DataPathTwice
 paths = record { least = omega arith; small = omega arith; Related = kinds.SameDataPath; to = beside_path; from = λ x y s. inr (inr (inl (refl, s))); swap = same_data_path_mutual }
 
-alignments : Kind NonalignedAccess
+abbrev alignments : Kind NonalignedAccess
 alignments = record { least = omega arith; small = omega arith; Related = kinds.NonalignedPair; to = beside_aligned; from = λ x y s. inr (inr (inr (inl (refl, s)))); swap = nonaligned_pair_mutual }
 
-operands : Kind CrossPathOperands
+abbrev operands : Kind CrossPathOperands
 operands = record { least = omega arith; small = omega arith; Related = kinds.CrossOperands; to = beside_cross; from = λ x y s. inr (inr (inr (inr (refl, s)))); swap = cross_operands_mutual }
 
 module _ (lawful start : Valuations) (past : List (List Instruction)) (xs : List Instruction) (zs : List InFlight) (own : issues zs ≡ slots (length past) (cycles past) 0 xs) where
