@@ -1,5 +1,7 @@
-// A list of at most N entries.
+// A list of at most N entries, kept in place.
 ghost use Rattle.std.specs.Prelude.{◌≡◌, ◌≤◌, length};
+
+use std::marker::Model;
 
 pub mod calls;
 
@@ -7,6 +9,15 @@ pub mod calls;
 pub struct Bounded<T: Copy, const N: usize> {
     count: usize,
     entries: [T; N],
-    ghost few: { count ≤ N },
-    ghost long: { length entries ≡ N },
+}
+
+// Clauses see the entries that were added, in order.
+impl<T: Copy, const N: usize> Model for Bounded<T, N> {
+    ghost use Rattle.std.specs.Prelude.{List, ◌≤◌, take};
+
+    ghost Value = { List T };
+
+    ghost view = { λ b. take b.count b.entries };
+
+    ghost invariant = { λ b. b.count ≤ N };
 }

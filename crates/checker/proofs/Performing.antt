@@ -5,11 +5,10 @@ use Rattle.isa.specs.declared.row.Row.{Row}
 use Rattle.constraints.specs.declared.fault.Fault.{Fault}
 use Rattle.book.specs.declared.calls.Call.{Call}
 use Rattle.book.specs.declared.calls.Answer.{Answer}
-use Rattle.runs.specs.declared.valuations.Valuations.{Valuations}
-use Rattle.book.specs.Books.{Rules, Book, opened, Says, after, SaysAll, after_all}
+use Rattle.book.specs.Books.{Rules, Book, Says, after, SaysAll, after_all}
 use Rattle.checker.specs.declared.checker.Checker.{Checker}
 use Rattle.checker.specs.Stands.{rules_of, Stands, Unchanged, Serves}
-use Rattle.checker.specs.Replays.{AnswersFrom, Performs}
+use Rattle.checker.specs.Replays.{Performs}
 
 -- one call more, and its answer
 says_push : (k : Rules) (b : Book) (cs : List Call) (vs : List (Result Answer Fault)) (c : Call) (v : Result Answer Fault) → SaysAll k b cs vs → Says k (after_all k b cs vs) c v
@@ -40,14 +39,3 @@ performs_more {R} k j b cs n d old new newer c after-c v h same p serves pushed 
 -- equal repertoires and lawful sets make equal rules
 pub same_rules : {R : Type 0} (map : R → ℕ → Option Row) (c d : Checker R) → c.repertoire ≡ d.repertoire → c.history.lawful ≡ d.history.lawful → rules_of (map c.repertoire) c ≡ rules_of (map d.repertoire) d
 same_rules map c d e f = ap₂ (λ r v. record { rows = map r; lawful = v }) e f
-
--- what was performed by a new checker
-pub answers_of : {R : Type 0} (map : R → ℕ → Option Row) (c : Checker R) (r : R) (v : Valuations) → (c.repertoire ≡ r) × (c.history.lawful ≡ v) → (cs : List Call) (old kept new : List (Result Answer Fault)) (d : Checker R) → kept ≡ old
-    → Performs (rules_of (map c.repertoire) c) (opened v) cs kept new d → AnswersFrom (record { rows = map r; lawful = v }) (opened v) cs old new
-answers_of {R} map c r v (e, f) cs old kept new d same p =
-    let k : rules_of (map c.repertoire) c ≡ record { rows = map r; lawful = v } = ap₂ (λ x y. record { rows = map x; lawful = y }) e f in
-    record {
-      answers = p.answers;
-      added = p.added ∙ ap (λ l. l ++ p.answers) same;
-      says = subst (λ (j : Rules). SaysAll j (opened v) cs p.answers) k p.says;
-    }

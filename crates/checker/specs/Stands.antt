@@ -4,7 +4,6 @@ use Rattle.isa.specs.declared.row.Row.{Row}
 use Rattle.isa.specs.Refusals.{number}
 use Rattle.admission.specs.declared.instruction.Instruction.{Instruction}
 use Rattle.runs.specs.declared.valuations.Valuations.{Valuations}
-use Rattle.bounded.specs.Listed.{listed}
 use Rattle.constraints.specs.declared.fault.Fault.{Fault}
 use Rattle.constraints.specs.Faults.{AcceptedAs, RefusedWith}
 use Rattle.flight.specs.Kept.{StandsFor}
@@ -25,7 +24,7 @@ Fits Closed b = (b.closed ≡ true) × (b.held ≡ [])
 -- the checker stands for the book: it is in the same state, with the same records open, and what it keeps stands for the accepted packets
 pub record Stands {R : Type 0} (c : Checker R) (b : Book) : Type 0 where
   pub fits : Fits c.state b
-  pub held : listed c.gathered ≡ b.held
+  pub held : c.gathered ≡ b.held
   pub short : length b.held ≤ 7
   pub stalls : c.stalls ≡ b.stalls
   pub calm : b.stalls ≤ length b.accepted
@@ -47,7 +46,7 @@ Serves k before c now a = (b : Book) → Stands before b → Says k b c a × Sta
 -- the checker has completed the packet xs of the book, which is still to be judged
 pub record Complete {R : Type 0} (c : Checker R) (b : Book) (xs : List Instruction) : Type 0 where
   pub going : b.closed ≡ false
-  pub gathered : listed c.gathered ≡ xs
+  pub gathered : c.gathered ≡ xs
   pub room : length b.accepted < 512
   pub stalls : c.stalls ≡ b.stalls
   pub calm : b.stalls ≤ length b.accepted

@@ -27,6 +27,7 @@ fn perform<R: Repertoire>(
 }
 
 // Opens a checker, makes each call in turn, and adds the answers; answers itself why the checker was closed at once, if it was.
+#[tactic(auto, using(soundness::proofs::Accepted::some_run))]
 pub fn replay<R: Repertoire + Drop>(
     repertoire: R,
     lawful: Valuations,

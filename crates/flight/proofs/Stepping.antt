@@ -1,8 +1,9 @@
 -- Sets of valuations at the packet judged, and one packet on; the entries that go on. Assumes nothing.
-use Rattle.std.proofs.Common.{◌≡◌, ℕ, ◌+◌, ◌<◌, ◌≤◌, Bool, true, false, cond, List, [], ◌∷◌, ◌++◌, map, length, get_or, take, sym, ap, ◌∙◌, subst}
+use Rattle.std.proofs.Common.{◌≡◌, ℕ, ◌+◌, ◌<◌, ◌≤◌, Bool, true, false, cond, List, [], ◌∷◌, ◌++◌, map, length, get_or, take, sym, ap, ◌∙◌, subst, arith}
 use Rattle.std.specs.List.{AllByRecursion as All}
 use Rattle.std.proofs.lemmas.List.Elements.{filter-append}
 use Rattle.std.proofs.ByRecursion.{All-take, All-push}
+use Rattle.std.proofs.lemmas.Grind.{common_steps}
 use Rattle.std.proofs.lemmas.List.{length_push, take_more, map-append, append-nil}
 use Rattle.isa.specs.declared.condition.Condition.{Condition}
 use Rattle.admission.specs.declared.instruction.Instruction.{Instruction}
@@ -11,7 +12,6 @@ use Rattle.runs.specs.declared.valuations.Changes.{Changes}
 use Rattle.runs.specs.Valuations.{Iff, Meets, Has, MayChange, After}
 use Rattle.runs.specs.Runs.{Carries, Reaches}
 use Rattle.runs.proofs.Carrying.{carries_more}
-use Rattle.bounded.proofs.Pushing.{take_push}
 use Rattle.constraints.specs.Schedules.{May}
 use Rattle.flight.specs.declared.issued.Issued.{Issued}
 use Rattle.flight.specs.declared.issued.InFlight.{InFlight}
@@ -43,6 +43,10 @@ carries_on lawful start past xs j c set r m le masks stepped held =
 -- one entry more: it goes on, or it is left
 abbrev pub issues : List InFlight → List Issued
 issues es = map (λ e. e.issued) es
+
+-- what no longer fits is left out, before or after one entry more
+take_push : {X : Type 0} (n : ℕ) (xs : List X) (x : X) → take n (take n xs ++ x ∷ []) ≡ take n (xs ++ x ∷ [])
+take_push n xs x = grind (arith, common_steps)
 
 kept_more : (c : ℕ) (es : List InFlight) (n : ℕ) (d : InFlight) → n < length es → kept c (issues (take (n + 1) es)) ≡ kept c (issues (take n es)) ++ kept c ((get_or es n d).issued ∷ [])
 kept_more c es n d h =

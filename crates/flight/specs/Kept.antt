@@ -4,7 +4,6 @@ use Rattle.std.specs.List.{AllByRecursion}
 use Rattle.admission.specs.declared.instruction.Instruction.{Instruction}
 use Rattle.runs.specs.declared.valuations.Valuations.{Valuations}
 use Rattle.runs.specs.Runs.{Carries, Reaches}
-use Rattle.bounded.specs.Listed.{listed}
 use Rattle.constraints.specs.Schedules.{cycles, May}
 use Rattle.flight.specs.declared.issued.InFlight.{InFlight}
 use Rattle.flight.specs.declared.history.History.{History}
@@ -24,8 +23,8 @@ pub record StandsFor (h : History) (start : Valuations) (past : List (List Instr
   pub time : h.cycle ≡ cycles past
   pub narrow : AllByRecursion (λ p. length p ≤ 8) past
   pub reached : Reaches h.lawful start (May past) (length past) h.reachable
-  pub flying : FlightOf past (cycles past) (listed h.flight)
-  pub performed : AllByRecursion (Performed h.lawful start past) (listed h.flight)
+  pub flying : FlightOf past (cycles past) h.flight
+  pub performed : AllByRecursion (Performed h.lawful start past) h.flight
 
 -- the entries are those in flight behind past, and then the packet xs
 pub record Joined (lawful start : Valuations) (past : List (List Instruction)) (xs : List Instruction) (es : List InFlight) : Type 0 where

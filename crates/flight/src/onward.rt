@@ -4,7 +4,6 @@ ghost use Rattle.std.specs.List.{AllByRecursion};
 ghost use Rattle.admission.specs.declared.instruction.Instruction.{Instruction};
 ghost use Rattle.runs.specs.declared.valuations.Valuations.{Valuations};
 ghost use Rattle.runs.specs.Valuations.{Iff, MayChange};
-ghost use Rattle.bounded.specs.Listed.{listed};
 ghost use Rattle.constraints.specs.Schedules.{May};
 ghost use Rattle.flight.specs.Issues.{live, kept};
 ghost use Rattle.flight.specs.Kept.{Performed};
@@ -39,13 +38,13 @@ pub(crate) fn onward(
     lawful: Valuations,
     changes: Changes,
 ) -> Bounded<InFlight, 40>
-    ensures issued { map (λ e. e.issued) (listed result) ≡ take 40 (kept cycle (map (λ e. e.issued) entries.now)) }
-    ensures performed { (start : Valuations) (past : List (List Instruction)) (xs : List Instruction) → ((i : ℕ) → i < 6 → Iff (MayChange changes i) (May (past ++ xs ∷ []) (length past) i)) → AllByRecursion (λ e. e.issued.place.packet ≤ length past) entries.now → AllByRecursion (Performed lawful start past) entries.now → AllByRecursion (Performed lawful start (past ++ xs ∷ [])) (listed result) }
+    ensures issued { map (λ e. e.issued) result ≡ take 40 (kept cycle (map (λ e. e.issued) entries.now)) }
+    ensures performed { (start : Valuations) (past : List (List Instruction)) (xs : List Instruction) → ((i : ℕ) → i < 6 → Iff (MayChange changes i) (May (past ++ xs ∷ []) (length past) i)) → AllByRecursion (λ e. e.issued.place.packet ≤ length past) entries.now → AllByRecursion (Performed lawful start past) entries.now → AllByRecursion (Performed lawful start (past ++ xs ∷ [])) result }
 {
     let mut list = Bounded::new(UNUSED);
     for entry in entries {
         if lives(entry.issued, cycle) {
-            list.push(stepped(*entry, lawful, changes));
+            let _ = list.push(stepped(*entry, lawful, changes));
         }
     }
     list

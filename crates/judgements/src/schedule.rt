@@ -48,7 +48,7 @@ pub(crate) fn schedule(rt: &impl Abort, lawful: u64, records: &[[u8; 8]]) -> Res
     let mut stalls = 0usize;
     for bytes in records {
         let (instruction, goes_on) = admitted(bytes)?;
-        assert!(rt; packet.push(instruction));
+        assert!(rt; packet.push(instruction).is_ok());
         if goes_on {
             continue;
         }
@@ -62,7 +62,7 @@ pub(crate) fn schedule(rt: &impl Abort, lawful: u64, records: &[[u8; 8]]) -> Res
         cycles = accepted.issue as u64 + accepted.length as u64;
         stalls = stalls.wrapping_add(accepted.stall as usize);
     }
-    assert!(rt; packet.as_slice().is_empty());
+    assert!(rt; packet.is_empty());
     Ok(Outcome::Accepted(packets, cycles, stalls))
 }
 

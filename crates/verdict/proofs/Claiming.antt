@@ -1,33 +1,19 @@
 -- The claims of entries, and the first clash among them. Assumes nothing.
-use Rattle.std.proofs.Common.{◌≡◌, ℕ, zero, suc, ◌+◌, ◌<◌, List, [], ◌∷◌, ◌++◌, map, length, get_or, take, sym, refl, ap, ◌∙◌, subst₂, arith}
-use Rattle.std.proofs.lemmas.List.{take_more, map-append, length-map, get_or_default}
-use Rattle.bounded.proofs.Pushing.{take_push}
+use Rattle.std.proofs.Common.{ℕ, ◌<◌, List, [], ◌∷◌, map, length, sym, subst₂, arith}
+use Rattle.std.proofs.lemmas.List.{length-map, get_or-map}
 use Rattle.claims.specs.Claims.{ClashAt, FreeFrom, FirstClash}
-
--- one claim more
-pub claimed_more : {X Y : Type 0} (f : X → Y) (m : ℕ) (es : List X) (n : ℕ) (d : X) (c : Y) (list after : List Y) → n < length es → c ≡ f (get_or es n d)
-    → list ≡ take m (map f (take n es)) → after ≡ take m (list ++ c ∷ []) → after ≡ take m (map f (take (n + 1) es))
-claimed_more f m es n d c list after h same inv pushed =
-    pushed ∙ ap (λ l. take m (l ++ c ∷ [])) inv ∙ take_push m (map f (take n es)) c ∙ ap (λ x. take m (map f (take n es) ++ x ∷ [])) same
-    ∙ ap (take m) (sym (ap (map f) (take_more es n d h) ∙ map-append f (take n es) (get_or es n d ∷ [])))
-
-get_or_mapped : {X Y : Type 0} (f : X → Y) (xs : List X) (a : ℕ) (d : X) → get_or (map f xs) a (f d) ≡ f (get_or xs a d)
-get_or_mapped f [] a d = refl
-get_or_mapped f (x ∷ xs) zero d = refl
-get_or_mapped f (x ∷ xs) (suc a) d = get_or_mapped f xs a d
 
 module _ {X Y : Type 0} (f : X → Y) (clash : Y → Y → Type 0) (es : List X) where
   -- entries clash where their claims do
   abbrev pub Meet : X → X → Type 0
   Meet x y = clash (f x) (f y)
 
-  meet_of : (a b : ℕ) → ClashAt clash (map f es) a b → ClashAt Meet es a b
-  meet_of a b h d = subst₂ clash (get_or_mapped f es a d) (get_or_mapped f es b d) (h (f d))
+  module _ (a b : ℕ) (ha : a < length es) (hb : b < length es) where
+    meet_of : ClashAt clash (map f es) a b → ClashAt Meet es a b
+    meet_of h d = subst₂ clash (get_or-map f es a d (f d) ha) (get_or-map f es b d (f d) hb) (h (f d))
 
-  clash_of : (a b : ℕ) → a < length es → b < length es → X → ClashAt Meet es a b → ClashAt clash (map f es) a b
-  clash_of a b ha hb x h d =
-      let n = length-map es f in
-      subst₂ clash (sym (get_or_mapped f es a x) ∙ get_or_default (map f es) a (f x) d (omega arith)) (sym (get_or_mapped f es b x) ∙ get_or_default (map f es) b (f x) d (omega arith)) (h x)
+    clash_of : X → ClashAt Meet es a b → ClashAt clash (map f es) a b
+    clash_of x h d = subst₂ clash (sym (get_or-map f es a x d ha)) (sym (get_or-map f es b x d hb)) (h x)
 
   -- some entry, since there is one
   some_entry : (n : ℕ) → n < length es → X
@@ -50,16 +36,7 @@ module _ {X Y : Type 0} (f : X → Y) (clash : Y → Y → Type 0) (es : List X)
         reached = p.reached;
         inside = inside;
         ordered = ordered;
-        clashing = meet_of a b p.clashing;
+        clashing = meet_of a b (omega arith) inside p.clashing;
         least = λ k le h j lt at. p.least k le h j lt (clash_of j k (omega arith) (omega arith) (some_entry b inside) at);
         first = λ j lt at. p.first j lt (clash_of j b (omega arith) inside (some_entry b inside) at);
       }
-
-  -- both places are inside
-  pub inside_of : (cs : List Y) (low a b : ℕ) → cs ≡ map f es → FirstClash clash cs low a b → (a < length es) × (b < length es)
-  inside_of cs low a b same p =
-      let n = ap length same in
-      let m = length-map es f in
-      let i = p.inside in
-      let o = p.ordered in
-      (omega arith, omega arith)

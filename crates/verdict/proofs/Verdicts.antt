@@ -1,6 +1,6 @@
 -- A fault by its places, and constraint after constraint. Assumes nothing.
 use Rattle.std.proofs.Common.{◌≡◌, ℕ, ◌+◌, ◌-◌, ◌<◌, ◌≤◌, ◌⊎◌, List, ◌++◌, length, take, drop, IsErrAnd, Err, Result, sym, refl, ap, ◌∙◌, subst, ap₂, inl, inr, ⊎_elim, arith, MatchResult}
-use Rattle.std.proofs.lemmas.List.{length-map, take_rest, drop-map, drop_at}
+use Rattle.std.proofs.lemmas.List.{length-map, take_all, take_rest, drop-map, drop_at}
 use Rattle.std.proofs.lemmas.List.Sums.{sum_by-take-le}
 use Rattle.std.proofs.lemmas.Bool.{cases_lt, cases_eq}
 use Rattle.std.proofs.lemmas.Result.{err_from_is_err_and}
@@ -16,8 +16,10 @@ use Rattle.constraints.specs.Constraints.{ClashAt, Breaks}
 use Rattle.constraints.specs.Faults.{RefusedWith}
 use Rattle.constraints.specs.Schedules.{cycles}
 use Rattle.flight.specs.declared.issued.InFlight.{InFlight}
+use Rattle.flight.specs.declared.history.History.{History}
 use Rattle.flight.specs.Issues.{slots, positions, kept}
-use Rattle.flight.specs.Kept.{FlightOf}
+use Rattle.flight.specs.Kept.{FlightOf, StandsFor}
+use Rattle.flight.proofs.Keeping.{length_slots}
 use Rattle.flight.proofs.Stepping.{issues}
 use Rattle.verdict.specs.Search.{FirstFault, SlotFault}
 use Rattle.verdict.specs.Parts.{Passes, FaultFrom}
@@ -108,12 +110,15 @@ breaks_low lawful start past xs n =
     (⊎_elim (λ (e, _). (omega arith, omega arith)) (λ (e, _). (omega arith, omega arith)))
 
 -- the entries of the packet, behind those in flight
-pub own_slots : (all es : List InFlight) (from k c m n : ℕ) (xs : List Instruction) → from ≡ length es → k ≡ m → c ≡ n → issues all ≡ issues es ++ slots k c 0 xs
-    → issues (take (length all - from) (drop from all)) ≡ slots m n 0 xs
-own_slots all es from k c m n xs e ek ec made =
-    let l = length-map es (λ (z : InFlight). z.issued) in
-    ap issues (take_rest all from) ∙ sym (drop-map (λ (z : InFlight). z.issued) from all) ∙ ap (drop from) made ∙ drop_at (issues es) (slots k c 0 xs) from (omega arith)
-    ∙ ap₂ (λ (a b : ℕ). slots a b 0 xs) ek ec
+pub own_slots : {h : History} {start : Valuations} {past : List (List Instruction)} {all slice own : List InFlight} {from : ℕ} (xs : List Instruction) → StandsFor h start past → length xs ≤ 8
+    → from ≡ length h.flight → issues all ≡ issues h.flight ++ slots h.packets h.cycle 0 xs → slice ≡ all → own ≡ take 8 (take (length slice - from) (drop from slice))
+    → issues own ≡ slots (length past) (cycles past) 0 xs
+own_slots {h} {start} {past} {all} {slice} {own} {from} xs stands short e made same cut =
+    let front = length-map h.flight (λ (z : InFlight). z.issued) in
+    let behind : issues (drop from slice) ≡ slots h.packets h.cycle 0 xs =
+    sym (drop-map (λ (z : InFlight). z.issued) from slice) ∙ ap (λ l. drop from (issues l)) same ∙ ap (drop from) made ∙ drop_at (issues h.flight) (slots h.packets h.cycle 0 xs) from (omega arith) in
+    let few : length (drop from slice) ≤ 8 = omega (arith, ap length behind, length-map (drop from slice) (λ (z : InFlight). z.issued), length_slots h.packets h.cycle 0 xs) in
+    ap issues (cut ∙ ap (take 8) (take_rest slice from) ∙ take_all 8 (drop from slice) few) ∙ behind ∙ ap₂ (λ (k c : ℕ). slots k c 0 xs) stands.many stands.time
 
 -- what a part of the constraints is refused with, after those before it passed
 pub refused_of : (lawful start : Valuations) (past : List (List Instruction)) (xs : List Instruction) (low : ℕ) (f : Fault) → Passes lawful start past xs 11 low → FaultFrom lawful start past xs low f → RefusedWith lawful start past xs f

@@ -1,8 +1,11 @@
 -- The first clash among entries, and the first slot that completes a fault of the packet, as faults.
 use Rattle.std.specs.Prelude.{◌≡◌, ℕ, List, Some}
+use Rattle.std.specs.Borrow.{RattleType}
+use Rattle.std.specs.Mem.{FitsInMemory}
 use Rattle.isa.specs.BuiltIn.{at}
 use Rattle.isa.specs.declared.refusal.Refusal.{Refusal}
 use Rattle.admission.specs.declared.instruction.Instruction.{Instruction}
+use Rattle.bounded.specs.contracts.list.Bounded.{the_row}
 use Rattle.claims.specs.Claims.{FirstClash}
 use Rattle.hazards.specs.Faults.{FirstSlot}
 use Rattle.constraints.specs.declared.fault.Fault.{Fault}
@@ -27,3 +30,7 @@ pub record SlotFault (Excess : List Instruction → Type 0) (xs : List Instructi
   pub packet : f.later.packet ≡ packets
   pub slot : FirstSlot Excess xs f.later.slot
   pub again : f.earlier ≡ f.later
+
+-- a list of N claims fits in memory
+abbrev pub ClaimsFitInMemory : (C N : RattleType) → Type 0
+ClaimsFitInMemory C N = FitsInMemory (the_row C N)

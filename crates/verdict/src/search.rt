@@ -1,10 +1,9 @@
 // The first clash among entries, for every kind of claim, and the first slot that completes a fault of a packet as a whole.
 ghost use Rattle.std.specs.Prelude.{◌≡◌, ◌<◌, ◌≤◌, map, length, Some, MatchResult};
 ghost use Rattle.isa.specs.BuiltIn.{at};
-ghost use Rattle.bounded.specs.Listed.{listed};
 ghost use Rattle.claims.specs.Claims.{FreeFrom};
 ghost use Rattle.flight.specs.declared.issued.InFlight.{InFlight};
-ghost use Rattle.verdict.specs.Search.{FirstFault, SlotFault};
+ghost use Rattle.verdict.specs.Search.{FirstFault, SlotFault, ClaimsFitInMemory};
 
 use crate::entry_claim::EntryClaim;
 use admission::instruction::Instruction;
@@ -16,15 +15,14 @@ use hazards::fault::{PacketFault, first_slot};
 use isa::refusal::Refusal;
 
 // The claims of entries.
-pub(crate) fn claims_of<C: EntryClaim>(entries: &[InFlight]) -> Bounded<C, 48>
-    requires few { length entries.now ≤ 48 }
-    ensures claims { listed result ≡ map C.EntryClaim.claimed entries.now }
+fn claims_of<C: EntryClaim, const N: usize>(entries: &Bounded<InFlight, N>) -> Bounded<C, N>
+    ensures claims { result ≡ map C.EntryClaim.claimed entries.now }
 {
-    let mut list = Bounded::new(C::of(&UNUSED));
-    for flying in entries {
-        list.push(C::of(flying));
+    let mut claims = Bounded::new(C::of(&UNUSED));
+    for flying in entries.as_slice() {
+        let _ = claims.push(C::of(flying));
     }
-    list
+    claims
 }
 
 // The place of an entry.
@@ -36,20 +34,20 @@ fn place_at(entries: &[InFlight], index: usize) -> Place
 }
 
 // Refuses the first two entries, from a place on, whose claims clash.
-pub(crate) fn no_clash<C: EntryClaim>(
+pub(crate) fn no_clash<C: EntryClaim, const N: usize>(
     refusal: Refusal,
-    claims: &[C],
-    entries: &[InFlight],
+    entries: &Bounded<InFlight, N>,
     from: usize,
 ) -> Result<(), Fault>
-    requires theirs { claims.now ≡ map C.EntryClaim.claimed entries.now }
+    requires fits { ClaimsFitInMemory C.row N.row }
     ensures cases { MatchResult result (λ _. FreeFrom (λ x y. C.Claim.clash (C.EntryClaim.claimed x) (C.EntryClaim.claimed y)) entries.now from (length entries.now)) (FirstFault (λ x y. C.Claim.clash (C.EntryClaim.claimed x) (C.EntryClaim.claimed y)) entries.now from refusal) }
 {
-    match first_clash(claims, from) {
+    let claims = claims_of::<C, N>(entries);
+    match first_clash(claims.as_slice(), from) {
         Some(clash) => Err(Fault {
             refusal,
-            later: place_at(entries, clash.later),
-            earlier: place_at(entries, clash.earlier),
+            later: place_at(entries.as_slice(), clash.later),
+            earlier: place_at(entries.as_slice(), clash.earlier),
         }),
         None => Ok(()),
     }

@@ -1,7 +1,6 @@
 // The checker's calls.
 ghost use Rattle.std.specs.Prelude.{◌≡◌, false, List, [], length, ◌≢◌};
 ghost use Rattle.admission.specs.declared.instruction.Instruction.{Instruction};
-ghost use Rattle.bounded.specs.Listed.{listed};
 ghost use Rattle.flight.specs.Kept.{StandsFor};
 ghost use Rattle.book.specs.declared.calls.Call.TheVariants.{Take, Close};
 ghost use Rattle.book.specs.Books.{Book, Standing, totals, opened, opening, SaysTake, after_take};
@@ -40,7 +39,7 @@ impl<R: Repertoire> Checker<R> {
     {
         let place = Place {
             packet: self.history.packets(),
-            slot: self.gathered.as_slice().len(),
+            slot: self.gathered.len(),
         };
         Fault {
             refusal,
@@ -80,15 +79,15 @@ impl<R: Repertoire> Checker<R> {
             Ok(instruction) => instruction,
             Err(refusal) => return Err(self.refused(refusal)),
         };
-        let gathered = self.gathered.as_slice().len();
+        let gathered = self.gathered.len();
         if !record.marks().p {
-            self.gathered.push(instruction);
+            let _ = self.gathered.push(instruction);
             return self.complete();
         }
         if gathered >= 7 {
             return Err(self.refused(Refusal::PacketTooLong));
         }
-        self.gathered.push(instruction);
+        let _ = self.gathered.push(instruction);
         self.state = State::Gathering;
         Ok(Answer::Open(gathered + 1))
     }
@@ -133,7 +132,7 @@ impl<R: Repertoire> Checker<R> {
 
     // Nothing accepted or open, in a state.
     fn begun(repertoire: R, lawful: Valuations, state: State) -> Checker<R>
-        ensures begun { (result.repertoire ≡ repertoire) × (result.state ≡ state) × (listed result.gathered ≡ []) × (result.stalls ≡ 0) × (result.history.lawful ≡ lawful) × StandsFor result.history result.history.lawful [] }
+        ensures begun { (result.repertoire ≡ repertoire) × (result.state ≡ state) × (result.gathered ≡ []) × (result.stalls ≡ 0) × (result.history.lawful ≡ lawful) × StandsFor result.history result.history.lawful [] }
     {
         Checker {
             repertoire,

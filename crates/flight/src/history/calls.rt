@@ -4,7 +4,6 @@ ghost use Rattle.std.specs.List.{AllByRecursion};
 ghost use Rattle.isa.specs.declared.refusal.Refusal.TheVariants.{ScheduleFull};
 ghost use Rattle.admission.specs.declared.instruction.Instruction.{Instruction};
 ghost use Rattle.runs.specs.declared.valuations.Valuations.{Valuations};
-ghost use Rattle.bounded.specs.Listed.{listed};
 ghost use Rattle.constraints.specs.Schedules.{Stalls};
 ghost use Rattle.flight.specs.Issues.{issued_at, slots};
 ghost use Rattle.flight.specs.Kept.{Performed, StandsFor, Joined, Accepts};
@@ -54,30 +53,23 @@ impl History {
         }
     }
 
-    // Adds the entries of the packet behind.
-    fn add(&self, entries: &mut Bounded<InFlight, 48>, packet: &[Instruction])
-        ensures issued { map (λ e. e.issued) (listed entries.new) ≡ take 48 (map (λ e. e.issued) (listed entries.old) ++ slots self.now.packets self.now.cycle 0 packet.now) }
-        ensures performed { (start : Valuations) (past : List (List Instruction)) → StandsFor self.now start past → AllByRecursion (Performed self.now.lawful start past) (listed entries.old) → AllByRecursion (Performed self.now.lawful start past) (listed entries.new) }
-    {
-        for slot in 0..packet.len() {
-            entries.push(self.entry(slot, packet[slot]));
-        }
-    }
-
     // The entries in flight, and behind them those of the packet.
     pub fn joined(&self, packet: &Packet) -> Bounded<InFlight, 48>
-        ensures issued { map (λ e. e.issued) (listed result) ≡ map (λ e. e.issued) (listed self.now.flight) ++ slots self.now.packets self.now.cycle 0 (listed packet.now) }
-        ensures many { length (listed result) ≡ length (listed self.now.flight) + length (listed packet.now) }
-        ensures joined { (start : Valuations) (past : List (List Instruction)) → StandsFor self.now start past → Joined self.now.lawful start past (listed packet.now) (listed result) }
+        ensures issued { map (λ e. e.issued) result ≡ map (λ e. e.issued) self.now.flight ++ slots self.now.packets self.now.cycle 0 packet.now }
+        ensures many { length result ≡ length self.now.flight + length packet.now }
+        ensures joined { (start : Valuations) (past : List (List Instruction)) → StandsFor self.now start past → Joined self.now.lawful start past packet.now result }
     {
-        let mut entries = copied(self.flight.as_slice());
-        self.add(&mut entries, packet.as_slice());
+        let mut entries = Bounded::from_slice(UNUSED, self.flight.as_slice());
+        let instructions = packet.as_slice();
+        for (slot, instruction) in instructions.iter().enumerate() {
+            let _ = entries.push(self.entry(slot, *instruction));
+        }
         entries
     }
 
     // The packet joins the accepted ones, unless they are 512.
     pub fn accept(&mut self, packet: &Packet) -> Result<(), Refusal>
-        ensures cases { MatchResult result (λ _. Accepts self.old (listed packet.now) self.new) (λ e. (e ≡ ScheduleFull) × (self.old.packets ≡ 512) × (self.new ≡ self.old)) }
+        ensures cases { MatchResult result (λ _. Accepts self.old packet.now self.new) (λ e. (e ≡ ScheduleFull) × (self.old.packets ≡ 512) × (self.new ≡ self.old)) }
     {
         if self.packets >= 512 {
             return Err(Refusal::ScheduleFull);
@@ -94,19 +86,8 @@ impl History {
 
     // Whether the packet behind stalls: an instruction brings over the cross path what landed just before.
     pub fn stalls(&self, packet: &Packet) -> bool
-        ensures decides { (start : Valuations) (past : List (List Instruction)) → StandsFor self.now start past → Decides result (Stalls past (listed packet.now)) }
+        ensures decides { (start : Valuations) (past : List (List Instruction)) → StandsFor self.now start past → Decides result (Stalls past packet.now) }
     {
         some_waits(packet.as_slice(), self.flight.as_slice(), self.cycle)
     }
-}
-
-// The first 48 of some entries.
-fn copied(entries: &[InFlight]) -> Bounded<InFlight, 48>
-    ensures entries { listed result ≡ take 48 entries.now }
-{
-    let mut list = Bounded::new(UNUSED);
-    for entry in entries {
-        list.push(*entry);
-    }
-    list
 }

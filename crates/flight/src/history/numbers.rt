@@ -1,6 +1,5 @@
 // What is told of the accepted packets.
 ghost use Rattle.std.specs.Prelude.{◌≡◌, length};
-ghost use Rattle.bounded.specs.Listed.{listed};
 
 use crate::history::History;
 
@@ -21,8 +20,8 @@ impl History {
 
     // How many entries are in flight.
     pub fn in_flight(&self) -> usize
-        ensures value { result ≡ length (listed self.now.flight) }
+        ensures value { result ≡ length self.now.flight }
     {
-        self.flight.as_slice().len()
+        self.flight.len()
     }
 }

@@ -1,8 +1,5 @@
-use Rattle.std.proofs.Common.{List, vec_items, ◌∙◌, subst, arith}
-use Rattle.std.proofs.lemmas.List.{take_all}
-use Rattle.book.specs.declared.calls.Call.{Call}
+use Rattle.std.proofs.Common.{vec_items, ◌∙◌, arith}
 use Rattle.checker.specs.Stands.{rules_of}
-use Rattle.checker.specs.Replays.{Performs}
 use Rattle.checker.proofs.Performing.{performs_more, same_rules}
 use Rattle.checker.proofs.replay.perform.Goals as goal
 
@@ -22,12 +19,3 @@ loop-call-preserved g c =
       omega (arith, c.push_reserved.ensures.len, inv.3),
       c.push_reserved.ensures.capacity ∙ inv.4,
     )
-
-pub returns : goal.returns
-returns g c =
-    let first = c.args.checker.now in
-    record {
-      performs = λ b stands.
-          subst (λ (cs : List Call). Performs (rules_of (g.R.Repertoire.map first.repertoire) first) b cs (vec_items c.args.answers.now) (vec_items c.loop-call.answers) c.loop-call.checker)
-          (take_all c.loop-call.call-index c.args.calls.now (omega arith)) (c.loop-call.invariant.0 b stands);
-    }

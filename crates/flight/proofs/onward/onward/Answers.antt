@@ -2,7 +2,6 @@ use Rattle.std.proofs.Common.{◌≤◌, [], ◌∷◌, ◌++◌, length, sym, a
 use Rattle.std.proofs.ByRecursion.{All-get_or}
 use Rattle.std.proofs.lemmas.List.{take_all}
 use Rattle.std.specs.List.{AllByRecursion as All}
-use Rattle.bounded.specs.Listed.{listed}
 use Rattle.flight.specs.Kept.{Performed}
 use Rattle.flight.proofs.Stepping.{goes_on, is_left, all_added}
 use Rattle.flight.proofs.onward.onward.Goals as goal
@@ -13,20 +12,20 @@ loop-entry-preserved c =
     let es = c.args.entries.now in
     let n = c.loop-entry.entry-index in
     let h = c.loop-entry-test.true in
-    let before = listed c.loop-entry.list in
-    let after = listed c.if-lives.list in
+    let before = c.loop-entry.list in
+    let after = c.if-lives.list in
     elim c.if-lives.branch [
       | then-lives w ↦
-          let pushed = ap listed w.list-is ∙ w.push.ensures.entries in (
+          let pushed = w.list-is ∙ w.push.ensures.entries in (
             goes_on c.args.cycle 40 es n _ w.stepped.result before after h (sym c.lives.ensures.value ∙ w.if-lives.true) w.stepped.ensures.issued pushed c.loop-entry.invariant.0,
             λ start past xs masks low held.
                 all_added (Performed c.args.lawful start (past ++ xs ∷ [])) 40 before after w.stepped.result pushed (c.loop-entry.invariant.1 start past xs masks low held)
                 (w.stepped.ensures.performed start past xs masks (All-get_or (λ e. e.issued.place.packet ≤ length past) es n _ h low) (All-get_or (Performed c.args.lawful start past) es n _ h held)),
           )
       | else-lives w ↦ (
-        ap (λ l. Rattle.flight.proofs.Stepping.issues (listed l)) w.list-is ∙ is_left c.args.cycle 40 es n _ before h (sym c.lives.ensures.value ∙ w.if-lives.false) c.loop-entry.invariant.0,
+        ap Rattle.flight.proofs.Stepping.issues w.list-is ∙ is_left c.args.cycle 40 es n _ before h (sym c.lives.ensures.value ∙ w.if-lives.false) c.loop-entry.invariant.0,
         λ start past xs masks low held.
-            subst (λ l. All (Performed c.args.lawful start (past ++ xs ∷ [])) (listed l)) (sym w.list-is) (c.loop-entry.invariant.1 start past xs masks low held),
+            subst (All (Performed c.args.lawful start (past ++ xs ∷ []))) (sym w.list-is) (c.loop-entry.invariant.1 start past xs masks low held),
       )
     ]
 

@@ -1,4 +1,4 @@
-use Rattle.std.proofs.Common.{◌≡◌, ℕ, ◌<◌, ◌≤◌, List, length, refl, inl, inr, arith}
+use Rattle.std.proofs.Common.{◌≡◌, ◌+◌, ◌<◌, ◌≤◌, List, length, refl, inl, inr, arith}
 use Rattle.std.proofs.lemmas.Result.{MatchResult-weaker}
 use Rattle.isa.specs.declared.refusal.Refusal.{Refusal}
 use Rattle.isa.specs.declared.refusal.Refusal.TheVariants.{UnitTwice, TwoLongNops, DataPathTwice, NonalignedAccess, CrossPathOperands}
@@ -10,7 +10,7 @@ use Rattle.claims.specs.Kinds as kinds
 use Rattle.claims.specs.Mutual.{same_unit_mutual, two_long_nops_mutual, same_data_path_mutual, nonaligned_pair_mutual, cross_operands_mutual}
 use Rattle.constraints.specs.declared.fault.Fault.{Fault}
 use Rattle.constraints.specs.Schedules.{cycles}
-use Rattle.constraints.specs.Constraints.{Breaks, Beside}
+use Rattle.constraints.specs.Constraints.{Beside}
 use Rattle.flight.specs.declared.issued.InFlight.{InFlight}
 use Rattle.flight.specs.Issues.{slots}
 use Rattle.flight.proofs.Stepping.{issues}
@@ -25,58 +25,72 @@ use Rattle.verdict.proofs.judge.beside.Goals as goal
 abbrev Pair : (Instruction → Instruction → Type 0) → InFlight → InFlight → Type 0
 Pair R e g = R e.issued.instruction g.issued.instruction
 
+-- a constraint on two instructions of one packet: what it says of them
+record Kind (refusal : Refusal) : Type 1 where
+  least : 11 ≤ number refusal
+  small : number refusal < 16
+  Related : Instruction → Instruction → Type 0
+  to : (x y : Instruction) → Beside (number refusal) x y → Related x y
+  from : (x y : Instruction) → Related x y → Beside (number refusal) x y
+  swap : (x y : Instruction) → Related x y → Related y x
+
+abbrev units : Kind UnitTwice
+units = record { least = omega arith; small = omega arith; Related = kinds.SameUnit; to = beside_unit; from = λ x y s. inl (refl, s); swap = same_unit_mutual }
+
+abbrev nops : Kind TwoLongNops
+nops = record { least = omega arith; small = omega arith; Related = kinds.TwoLongNops; to = beside_nop; from = λ x y s. inr (inl (refl, s)); swap = two_long_nops_mutual }
+
+abbrev paths : Kind DataPathTwice
+paths = record { least = omega arith; small = omega arith; Related = kinds.SameDataPath; to = beside_path; from = λ x y s. inr (inr (inl (refl, s))); swap = same_data_path_mutual }
+
+abbrev alignments : Kind NonalignedAccess
+alignments = record { least = omega arith; small = omega arith; Related = kinds.NonalignedPair; to = beside_aligned; from = λ x y s. inr (inr (inr (inl (refl, s)))); swap = nonaligned_pair_mutual }
+
+abbrev operands : Kind CrossPathOperands
+operands = record { least = omega arith; small = omega arith; Related = kinds.CrossOperands; to = beside_cross; from = λ x y s. inr (inr (inr (inr (refl, s)))); swap = cross_operands_mutual }
+
 module _ (lawful start : Valuations) (past : List (List Instruction)) (xs : List Instruction) (zs : List InFlight) (own : issues zs ≡ slots (length past) (cycles past) 0 xs) where
-  lined : Lined past xs zs 0
-  lined = lined_own past xs zs own
+  -- no two entries are related
+  abbrev Free : {refusal : Refusal} → Kind refusal → Type 0
+  Free k = FreeFrom (Pair k.Related) zs 0 (length zs)
 
-  -- one constraint on two instructions of the packet, whatever its number
-  module _ (refusal : Refusal) (small : number refusal < 16) (R : Instruction → Instruction → Type 0) (to : (x y : Instruction) → Beside (number refusal) x y → R x y)
-      (from : (x y : Instruction) → R x y → Beside (number refusal) x y) (swap : (x y : Instruction) → R x y → R y x) where
-    says : Says lawful start past xs zs 0 (number refusal) (Pair R)
-    says = beside_says lawful start past xs zs lined (number refusal) (omega arith) R to from swap
+  module _ (refusal : Refusal) (k : Kind refusal) (before : Passes lawful start past xs 11 (number refusal)) where
+    lined : Lined past xs zs 0
+    lined = lined_own past xs zs own
 
-    free : FreeFrom (Pair R) zs 0 (length zs) → Breaks lawful start past xs (number refusal) → ⊥
-    free = keeps lawful start past xs zs 0 lined refusal (λ e. omega arith, λ e. omega arith) (Pair R) says
+    apart : (number refusal ≡ 16 → ⊥) × (number refusal ≡ 17 → ⊥)
+    apart = let h = k.small in (λ e. omega arith, λ e. omega arith)
 
-    fault : (low : ℕ) (f : Fault) → low ≤ number refusal → Passes lawful start past xs low (number refusal) → FirstFault (Pair R) zs 0 refusal f → FaultFrom lawful start past xs low f
-    fault low f = fault_of lawful start past xs zs 0 lined refusal (λ e. omega arith, λ e. omega arith) (Pair R) says low f
+    says : Says lawful start past xs zs 0 (number refusal) (Pair k.Related)
+    says = let h = k.small in beside_says lawful start past xs zs lined (number refusal) (omega arith) k.Related k.to k.from k.swap
 
-  passes_unit : Passes lawful start past xs 11 11 → FreeFrom (Pair kinds.SameUnit) zs 0 (length zs) → Passes lawful start past xs 11 12
-  passes_unit before f = passes_more lawful start past xs 11 11 before (free UnitTwice (omega arith) kinds.SameUnit beside_unit (λ x y s. inl (refl, s)) same_unit_mutual f)
+    passes : Free k → Passes lawful start past xs 11 (number refusal + 1)
+    passes free = passes_more lawful start past xs 11 (number refusal) before (keeps lawful start past xs zs 0 lined refusal apart (Pair k.Related) says free)
 
-  fault_unit : (f : Fault) → Passes lawful start past xs 11 11 → FirstFault (Pair kinds.SameUnit) zs 0 UnitTwice f → FaultFrom lawful start past xs 11 f
-  fault_unit f before p = fault UnitTwice (omega arith) kinds.SameUnit beside_unit (λ x y s. inl (refl, s)) same_unit_mutual 11 f (omega arith) before p
+    fault : (f : Fault) → FirstFault (Pair k.Related) zs 0 refusal f → FaultFrom lawful start past xs 11 f
+    fault f = fault_of lawful start past xs zs 0 lined refusal apart (Pair k.Related) says 11 f k.least before
 
-  passes_nop : Passes lawful start past xs 11 12 → FreeFrom (Pair kinds.TwoLongNops) zs 0 (length zs) → Passes lawful start past xs 11 13
-  passes_nop before f = passes_more lawful start past xs 11 12 before (free TwoLongNops (omega arith) kinds.TwoLongNops beside_nop (λ x y s. inr (inl (refl, s))) two_long_nops_mutual f)
+  start_here : Passes lawful start past xs 11 11
+  start_here = passes_none lawful start past xs 11
 
-  fault_nop : (f : Fault) → Passes lawful start past xs 11 12 → FirstFault (Pair kinds.TwoLongNops) zs 0 TwoLongNops f → FaultFrom lawful start past xs 11 f
-  fault_nop f before p = fault TwoLongNops (omega arith) kinds.TwoLongNops beside_nop (λ x y s. inr (inl (refl, s))) two_long_nops_mutual 11 f (omega arith) before p
+  after_units : Free units → Passes lawful start past xs 11 12
+  after_units = passes UnitTwice units start_here
 
-  passes_path : Passes lawful start past xs 11 13 → FreeFrom (Pair kinds.SameDataPath) zs 0 (length zs) → Passes lawful start past xs 11 14
-  passes_path before f = passes_more lawful start past xs 11 13 before (free DataPathTwice (omega arith) kinds.SameDataPath beside_path (λ x y s. inr (inr (inl (refl, s)))) same_data_path_mutual f)
+  after_nops : Free units → Free nops → Passes lawful start past xs 11 13
+  after_nops u = passes TwoLongNops nops (after_units u)
 
-  fault_path : (f : Fault) → Passes lawful start past xs 11 13 → FirstFault (Pair kinds.SameDataPath) zs 0 DataPathTwice f → FaultFrom lawful start past xs 11 f
-  fault_path f before p = fault DataPathTwice (omega arith) kinds.SameDataPath beside_path (λ x y s. inr (inr (inl (refl, s)))) same_data_path_mutual 11 f (omega arith) before p
+  after_paths : Free units → Free nops → Free paths → Passes lawful start past xs 11 14
+  after_paths u n = passes DataPathTwice paths (after_nops u n)
 
-  passes_alignment : Passes lawful start past xs 11 14 → FreeFrom (Pair kinds.NonalignedPair) zs 0 (length zs) → Passes lawful start past xs 11 15
-  passes_alignment before f = passes_more lawful start past xs 11 14 before (free NonalignedAccess (omega arith) kinds.NonalignedPair beside_aligned (λ x y s. inr (inr (inr (inl (refl, s))))) nonaligned_pair_mutual f)
-
-  fault_alignment : (f : Fault) → Passes lawful start past xs 11 14 → FirstFault (Pair kinds.NonalignedPair) zs 0 NonalignedAccess f → FaultFrom lawful start past xs 11 f
-  fault_alignment f before p = fault NonalignedAccess (omega arith) kinds.NonalignedPair beside_aligned (λ x y s. inr (inr (inr (inl (refl, s))))) nonaligned_pair_mutual 11 f (omega arith) before p
-
-  passes_operand : Passes lawful start past xs 11 15 → FreeFrom (Pair kinds.CrossOperands) zs 0 (length zs) → Passes lawful start past xs 11 16
-  passes_operand before f = passes_more lawful start past xs 11 15 before (free CrossPathOperands (omega arith) kinds.CrossOperands beside_cross (λ x y s. inr (inr (inr (inr (refl, s))))) cross_operands_mutual f)
-
-  fault_operand : (f : Fault) → Passes lawful start past xs 11 15 → FirstFault (Pair kinds.CrossOperands) zs 0 CrossPathOperands f → FaultFrom lawful start past xs 11 f
-  fault_operand f before p = fault CrossPathOperands (omega arith) kinds.CrossOperands beside_cross (λ x y s. inr (inr (inr (inr (refl, s))))) cross_operands_mutual 11 f (omega arith) before p
+  after_alignments : Free units → Free nops → Free paths → Free alignments → Passes lawful start past xs 11 15
+  after_alignments u n p = passes NonalignedAccess alignments (after_paths u n p)
 
 pub returns-in_err-no_clash : goal.returns-in_err-no_clash
 returns-in_err-no_clash c = record {
   cases = λ lawful start past xs own.
       let zs = c.args.own.now in
       exit (λ _. Passes lawful start past xs 11 16) (FaultFrom lawful start past xs 11) c.from_residual.result c.in_err-no_clash.field-0.0 c.from_residual.ensures.1
-      (fault_unit lawful start past xs zs own c.in_err-no_clash.field-0.0 (passes_none lawful start past xs 11) c.in_err-no_clash.ensures.cases);
+      (fault lawful start past xs zs own UnitTwice units (start_here lawful start past xs zs own) c.in_err-no_clash.field-0.0 c.in_err-no_clash.ensures.cases);
 }
 
 pub returns-in_err-no_clash-2 : goal.returns-in_err-no_clash-2
@@ -84,7 +98,7 @@ returns-in_err-no_clash-2 c = record {
   cases = λ lawful start past xs own.
       let zs = c.args.own.now in
       exit (λ _. Passes lawful start past xs 11 16) (FaultFrom lawful start past xs 11) c.from_residual-in_err-no_clash-2.result c.in_err-no_clash-2.field-0.0 c.from_residual-in_err-no_clash-2.ensures.1
-      (fault_nop lawful start past xs zs own c.in_err-no_clash-2.field-0.0 (passes_unit lawful start past xs zs own (passes_none lawful start past xs 11) c.in_ok-no_clash.ensures.cases) c.in_err-no_clash-2.ensures.cases);
+      (fault lawful start past xs zs own TwoLongNops nops (after_units lawful start past xs zs own c.in_ok-no_clash.ensures.cases) c.in_err-no_clash-2.field-0.0 c.in_err-no_clash-2.ensures.cases);
 }
 
 pub returns-in_err-no_clash-3 : goal.returns-in_err-no_clash-3
@@ -92,7 +106,7 @@ returns-in_err-no_clash-3 c = record {
   cases = λ lawful start past xs own.
       let zs = c.args.own.now in
       exit (λ _. Passes lawful start past xs 11 16) (FaultFrom lawful start past xs 11) c.from_residual-in_err-no_clash-3.result c.in_err-no_clash-3.field-0.0 c.from_residual-in_err-no_clash-3.ensures.1
-      (fault_path lawful start past xs zs own c.in_err-no_clash-3.field-0.0 (passes_nop lawful start past xs zs own (passes_unit lawful start past xs zs own (passes_none lawful start past xs 11) c.in_ok-no_clash.ensures.cases) c.in_ok-no_clash-2.ensures.cases) c.in_err-no_clash-3.ensures.cases);
+      (fault lawful start past xs zs own DataPathTwice paths (after_nops lawful start past xs zs own c.in_ok-no_clash.ensures.cases c.in_ok-no_clash-2.ensures.cases) c.in_err-no_clash-3.field-0.0 c.in_err-no_clash-3.ensures.cases);
 }
 
 pub returns-in_err-no_clash-4 : goal.returns-in_err-no_clash-4
@@ -100,13 +114,13 @@ returns-in_err-no_clash-4 c = record {
   cases = λ lawful start past xs own.
       let zs = c.args.own.now in
       exit (λ _. Passes lawful start past xs 11 16) (FaultFrom lawful start past xs 11) c.from_residual-in_err-no_clash-4.result c.in_err-no_clash-4.field-0.0 c.from_residual-in_err-no_clash-4.ensures.1
-      (fault_alignment lawful start past xs zs own c.in_err-no_clash-4.field-0.0 (passes_path lawful start past xs zs own (passes_nop lawful start past xs zs own (passes_unit lawful start past xs zs own (passes_none lawful start past xs 11) c.in_ok-no_clash.ensures.cases) c.in_ok-no_clash-2.ensures.cases) c.in_ok-no_clash-3.ensures.cases) c.in_err-no_clash-4.ensures.cases);
+      (fault lawful start past xs zs own NonalignedAccess alignments (after_paths lawful start past xs zs own c.in_ok-no_clash.ensures.cases c.in_ok-no_clash-2.ensures.cases c.in_ok-no_clash-3.ensures.cases) c.in_err-no_clash-4.field-0.0 c.in_err-no_clash-4.ensures.cases);
 }
 
 pub returns : goal.returns
 returns c = record {
   cases = λ lawful start past xs own.
       let zs = c.args.own.now in
-      let before = passes_alignment lawful start past xs zs own (passes_path lawful start past xs zs own (passes_nop lawful start past xs zs own (passes_unit lawful start past xs zs own (passes_none lawful start past xs 11) c.in_ok-no_clash.ensures.cases) c.in_ok-no_clash-2.ensures.cases) c.in_ok-no_clash-3.ensures.cases) c.in_ok-no_clash-4.ensures.cases in
-      MatchResult-weaker c.no_clash-5.result c.no_clash-5.ensures.cases (λ _ f. passes_operand lawful start past xs zs own before f) (λ f p. fault_operand lawful start past xs zs own f before p);
+      let before = after_alignments lawful start past xs zs own c.in_ok-no_clash.ensures.cases c.in_ok-no_clash-2.ensures.cases c.in_ok-no_clash-3.ensures.cases c.in_ok-no_clash-4.ensures.cases in
+      MatchResult-weaker c.no_clash-5.result c.no_clash-5.ensures.cases (λ _ free. passes lawful start past xs zs own CrossPathOperands operands before free) (λ f p. fault lawful start past xs zs own CrossPathOperands operands before f p);
 }
