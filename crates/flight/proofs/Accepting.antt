@@ -1,10 +1,10 @@
 -- What is kept stands for one packet more. Assumes nothing.
-use Rattle.std.proofs.Common.{◌≡◌, ℕ, ◌+◌, ◌<◌, ◌≤◌, List, [], ◌∷◌, ◌++◌, length, take, sym, ap, ◌∙◌, subst, arith}
+use Rattle.std.proofs.Common.{◌≡◌, ℕ, ◌+◌, ◌<◌, ◌≤◌, List, [], ◌∷◌, ◌++◌, length, take, sym, ap, ◌∙◌, subst, arith, ◌↔◌}
 use Rattle.std.specs.List.{AllByRecursion as All}
 use Rattle.std.proofs.lemmas.List.{length_push, take_all}
 use Rattle.admission.specs.declared.instruction.Instruction.{Instruction}
 use Rattle.runs.specs.declared.valuations.Changes.{Changes}
-use Rattle.runs.specs.Valuations.{Iff, MayChange}
+use Rattle.runs.specs.Valuations.{MayChange}
 use Rattle.constraints.specs.Schedules.{cycles}
 use Rattle.constraints.proofs.Reordering.{stands_inside}
 use Rattle.flight.specs.declared.issued.InFlight.{InFlight}
@@ -25,7 +25,7 @@ module _ (past : List (List Instruction)) (xs : List Instruction) (es : List InF
       omega (arith, stands_inside (past ++ xs ∷ []) e.issued.place.packet e.issued.place.slot e.issued.instruction st, length_push past xs))
 
   -- the registers that they free are those that may change
-  pub masks_of : (m : Changes) (low high : ℕ) → low ≡ cycles past → high ≡ cycles (past ++ xs ∷ []) → ((i : ℕ) → i < 6 → Iff (MayChange m i) (SomeFrees low high i es)) → Masks m past xs
+  pub masks_of : (m : Changes) (low high : ℕ) → low ≡ cycles past → high ≡ cycles (past ++ xs ∷ []) → ((i : ℕ) → i < 6 → MayChange m i ↔ SomeFrees low high i es) → Masks m past xs
   masks_of m low high el eh members i hi =
       let (there, back) = frees_may past xs es flight i in
       let (a, b) = members i hi in (

@@ -3,7 +3,7 @@ use Rattle.std.proofs.Common.{◌≡◌, ℕ, zero, suc, ◌+◌, ◌<◌, ◌�
 use Rattle.std.specs.Option.{option_map}
 use Rattle.std.specs.List.{AllByRecursion as All}
 use Rattle.std.proofs.ByRecursion.{all_kept_by}
-use Rattle.isa.specs.BuiltIn.{at}
+use Rattle.std.specs.List.{slice_get}
 use Rattle.isa.specs.Classes.{delay}
 use Rattle.isa.specs.declared.class.Class.{Class}
 use Rattle.isa.specs.declared.register.Register.{Register}
@@ -54,7 +54,7 @@ writes_delay x w (j, hj, e) = by_width x.row.class x.update x.s2 w (result_width
 
 module _ (ps : List (List Instruction)) (c : ℕ) (es : List InFlight) (flight : FlightOf ps c es) where
   -- each entry stands in the schedule
-  pub flight_sound : (a : ℕ) (e : InFlight) → at es a ≡ Some e
+  pub flight_sound : (a : ℕ) (e : InFlight) → slice_get es a ≡ Some e
       → Stands ps e.issued.place.packet e.issued.place.slot e.issued.instruction × (e.issued.issue ≡ issue ps e.issued.place.packet)
   flight_sound a e h =
       let all = subst (All (FromPackets 0 0 ps)) (sym flight) (all_kept_by (live c) (FromPackets 0 0 ps) (positions 0 0 ps) (positions_sound 0 0 ps)) in
@@ -79,7 +79,7 @@ module _ (ps : List (List Instruction)) (c : ℕ) (es : List InFlight) (flight :
       (subst (Any (Is k s (issue ps k) x)) (sym flight) ((any_kept (live c) (Is k s (issue ps k) x) (positions 0 0 ps)).1 (a, q, at-q, (there, alive))))
 
   -- of two entries, the first stands at the earlier place
-  pub flight_ordered : (a b : ℕ) (e f : InFlight) → at es a ≡ Some e → at es b ≡ Some f → a < b → EarlierPlace e.issued f.issued
+  pub flight_ordered : (a b : ℕ) (e f : InFlight) → slice_get es a ≡ Some e → slice_get es b ≡ Some f → a < b → EarlierPlace e.issued f.issued
   flight_ordered a b e f ea eb h =
       ordered_at (map (λ e. e.issued) es) a b e.issued f.issued (subst Ordered (sym flight) (kept_ordered c ps)) (at_map (λ e. e.issued) es a e ea)
       (at_map (λ e. e.issued) es b f eb) h
@@ -92,5 +92,5 @@ module _ (ps : List (List Instruction)) (c : ℕ) (es : List InFlight) (flight :
       (a, f, at_f, (subst (λ (y : Instruction). Writes y w) (sym is.instruction) wr, let y = is.cycle in omega arith))
 
   -- what an entry writes lands
-  pub landing_of : (a : ℕ) (e : InFlight) (w : Write) → at es a ≡ Some e → Writes e.issued.instruction w → Lands ps (e.issued.issue + w.delay) w
+  pub landing_of : (a : ℕ) (e : InFlight) (w : Write) → slice_get es a ≡ Some e → Writes e.issued.instruction w → Lands ps (e.issued.issue + w.delay) w
   landing_of a e w h wr = let (st, same) = flight_sound a e h in (e.issued.place.packet, e.issued.place.slot, e.issued.instruction, st, wr, omega arith)

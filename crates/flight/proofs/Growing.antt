@@ -1,5 +1,5 @@
 -- One packet more behind a schedule: what issues, lands and may change before it stays as it was. Assumes nothing.
-use Rattle.std.proofs.Common.{◌≡◌, ℕ, ◌+◌, ◌<◌, ◌≤◌, List, [], ◌∷◌, ◌++◌, length, get_or, Some, None, Option, sym, refl, ap, ◌∙◌, subst, ⊎_elim, arith}
+use Rattle.std.proofs.Common.{◌≡◌, ℕ, ◌+◌, ◌<◌, ◌≤◌, List, [], ◌∷◌, ◌++◌, length, get_or, Some, None, Option, sym, refl, ap, ◌∙◌, subst, ⊎_elim, arith, ◌↔◌}
 use Rattle.std.proofs.lemmas.List.{take-append-le, take_at, take_all, length_push}
 use Rattle.std.proofs.lemmas.List.Sums.{sum_by-take-le, sum_by_push}
 use Rattle.isa.specs.declared.condition.Condition.{Condition}
@@ -7,7 +7,6 @@ use Rattle.admission.specs.declared.instruction.Instruction.{Instruction}
 use Rattle.admission.specs.declared.instruction.Write.{Write}
 use Rattle.admission.specs.Operands.{write_places}
 use Rattle.runs.specs.declared.valuations.Valuations.{Valuations}
-use Rattle.runs.specs.Valuations.{Iff}
 use Rattle.runs.specs.Runs.{Carries}
 use Rattle.runs.proofs.Carrying.{carries_like}
 use Rattle.hazards.specs.Lengths.{packet_length}
@@ -66,7 +65,7 @@ freed_some issue low high i (Some w) (a, b, t) = (w, refl, a, b, t)
 
 -- what the entries in flight free is what may change from the last packet to the one behind
 pub frees_may : (ps : List (List Instruction)) (p : List Instruction) (es : List InFlight) → FlightOf (ps ++ p ∷ []) (cycles ps) es
-    → (i : ℕ) → Iff (SomeFrees (cycles ps) (cycles (ps ++ p ∷ [])) i es) (May (ps ++ p ∷ []) (length ps) i)
+    → (i : ℕ) → SomeFrees (cycles ps) (cycles (ps ++ p ∷ [])) i es ↔ May (ps ++ p ∷ []) (length ps) i
 frees_may ps p es flight i = (there, back)
   where
     there : SomeFrees (cycles ps) (cycles (ps ++ p ∷ [])) i es → May (ps ++ p ∷ []) (length ps) i

@@ -6,7 +6,7 @@ use Rattle.std.proofs.ByRecursion.{All-append, All-weaker, all_kept_by}
 use Rattle.std.proofs.lemmas.List.{length-append}
 use Rattle.std.proofs.lemmas.List.Sums.{sum_by-cons, length-filter, count_by-le-length}
 use Rattle.std.proofs.lemmas.Bool.{cases_lt, both_ways}
-use Rattle.isa.specs.BuiltIn.{at}
+use Rattle.std.specs.List.{slice_get}
 use Rattle.isa.specs.declared.class.Class.{Class}
 use Rattle.isa.specs.declared.class.Class.TheVariants.{Nop, SingleCycle, TwoCycle, FourCycle, Load, Store}
 use Rattle.isa.specs.Classes.{delay}
@@ -146,7 +146,7 @@ pub kept_ordered : (c : ℕ) (ps : List (List Instruction)) → Ordered (kept c 
 kept_ordered c ps = ordered_kept (live c) (positions 0 0 ps) (positions_ordered 0 0 ps)
 
 -- of two places in the list, the first is the earlier
-pub ordered_at : (qs : List Issued) (a b : ℕ) (q r : Issued) → Ordered qs → at qs a ≡ Some q → at qs b ≡ Some r → a < b → EarlierPlace q r
+pub ordered_at : (qs : List Issued) (a b : ℕ) (q r : Issued) → Ordered qs → slice_get qs a ≡ Some q → slice_get qs b ≡ Some r → a < b → EarlierPlace q r
 ordered_at [] a b q r o ea eb h = absurd (none_some q ea)
 ordered_at (x ∷ qs) zero zero q r o ea eb h = absurd (omega arith)
 ordered_at (x ∷ qs) zero (suc b) q r o ea eb h = subst (λ y. EarlierPlace y r) (some_one x q ea) (all_at (EarlierPlace x) qs b r o.0 eb)

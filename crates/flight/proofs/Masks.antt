@@ -1,5 +1,5 @@
 -- The mask of a condition register. Assumes nothing.
-use Rattle.std.proofs.Common.{◌≡◌, ℕ, zero, suc, ◌+◌, ◌<◌, ◌≤◌, Bool, true, false, cond, not, T, eqb, ◌⊎◌, List, [], ◌∷◌, length, get_or, take, None, Option, sym, refl, ap, ◌∙◌, subst, inl, inr, ⊎_elim, arith, eq-eqb, eqb-true}
+use Rattle.std.proofs.Common.{◌≡◌, ℕ, zero, suc, ◌+◌, ◌<◌, ◌≤◌, Bool, true, false, cond, not, T, eqb, ◌⊎◌, List, [], ◌∷◌, length, get_or, take, None, Option, sym, refl, ap, ◌∙◌, subst, inl, inr, ⊎_elim, arith, eq-eqb, eqb-true, ◌↔◌}
 use lib.Bits.{bit_or}
 use Rattle.std.proofs.lemmas.List.{take_more}
 use Rattle.std.proofs.lemmas.Bool.{cases_lt}
@@ -7,10 +7,11 @@ use Rattle.std.proofs.lemmas.Bool.Decides.{nat_tests}
 use Rattle.isa.specs.Bits.{bit}
 use Rattle.isa.specs.declared.condition.ConditionRegister.{ConditionRegister}
 use Rattle.isa.specs.declared.condition.ConditionRegister.TheVariants.{B0, B1, B2, A1, A2, A0}
-use Rattle.runs.specs.Valuations.{Iff, place}
+use Rattle.runs.specs.Valuations.{place}
 use Rattle.runs.proofs.Table.{at2}
 use Rattle.runs.proofs.Sets.{bit-bit_or, zero_or_one}
-use Rattle.constraints.specs.Schedules.{register_number, Tested}
+use Rattle.isa.specs.Conditions.{register_number}
+use Rattle.constraints.specs.Schedules.{Tested}
 use Rattle.flight.specs.declared.issued.InFlight.{InFlight}
 use Rattle.flight.specs.Issues.{condition_bit, Frees, SomeFrees}
 use Rattle.flight.proofs.Entries.{any_push}
@@ -49,7 +50,7 @@ told false false t = refl
 none_above : (n : ℕ) → 35 ≤ n → condition_bit n ≡ 0
 none_above n h = grind (arith, nat_tests)
 
-pub condition_bit_lem : (n i : ℕ) → i < 6 → Iff (bit (condition_bit n) i ≡ 1) (Tested (record { number = n }) i)
+pub condition_bit_lem : (n i : ℕ) → i < 6 → (bit (condition_bit n) i ≡ 1) ↔ Tested (record { number = n }) i
 condition_bit_lem n i hi = (there, back)
   where
     there : bit (condition_bit n) i ≡ 1 → Tested (record { number = n }) i
@@ -68,7 +69,7 @@ condition_bit_lem n i hi = (there, back)
         eqb-true (bit (condition_bit n) i) 1 (f ∙ eq-eqb n (register_at i) same)
 
 -- a bit of two masks joined
-pub or_either : (a b i : ℕ) {P Q : Type 0} → Iff (bit a i ≡ 1) P → Iff (bit b i ≡ 1) Q → Iff (bit (bit_or a b) i ≡ 1) (P ⊎ Q)
+pub or_either : (a b i : ℕ) {P Q : Type 0} → ((bit a i ≡ 1) ↔ P) → ((bit b i ≡ 1) ↔ Q) → (bit (bit_or a b) i ≡ 1) ↔ (P ⊎ Q)
 or_either a b i (p, back_p) (q, back-q) =
     let e = bit-bit_or a b i in (
       λ h. ⊎_elim (λ zero_a. ⊎_elim (λ zero-b. absurd (omega arith)) (λ one_b. inr (q one_b)) (zero_or_one b i)) (λ one-a. inl (p one-a)) (zero_or_one a i),
@@ -78,7 +79,7 @@ or_either a b i (p, back_p) (q, back-q) =
 
 -- one of three places
 pub some_of_three : {X : Type 0} (P : Option X → Type 0) (l : List (Option X))
-    → Iff ((P (get_or l 0 None) ⊎ P (get_or l 1 None)) ⊎ P (get_or l 2 None)) ((j : ℕ) × (j < 3) × P (get_or l j None))
+    → ((P (get_or l 0 None) ⊎ P (get_or l 1 None)) ⊎ P (get_or l 2 None)) ↔ ((j : ℕ) × (j < 3) × P (get_or l j None))
 some_of_three P l = (
   ⊎_elim (⊎_elim (λ p. (0, omega arith, p)) (λ p. (1, omega arith, p))) (λ p. (2, omega arith, p)),
   λ (j, h, p). by j h p,
@@ -90,13 +91,13 @@ some_of_three P l = (
     by (suc (suc zero)) h p = inr p
     by (suc (suc (suc j))) h p = absurd (omega arith)
 
-pub iff_trans : {P Q R : Type 0} → Iff P Q → Iff Q R → Iff P R
+pub iff_trans : {P Q R : Type 0} → (P ↔ Q) → (Q ↔ R) → P ↔ R
 iff_trans (a, b) (c, d) = (λ p. c (a p), λ r. b (d r))
 
 -- one entry more of those that free a register
 pub frees_more : (es : List InFlight) (n : ℕ) (d : InFlight) (mask r low high i : ℕ) → n < length es
-    → Iff (bit mask i ≡ 1) (SomeFrees low high i (take n es)) → Iff (bit r i ≡ 1) (Frees low high i (get_or es n d).issued)
-    → Iff (bit (bit_or mask r) i ≡ 1) (SomeFrees low high i (take (n + 1) es))
+    → ((bit mask i ≡ 1) ↔ SomeFrees low high i (take n es)) → (bit r i ≡ 1) ↔ Frees low high i (get_or es n d).issued
+    → (bit (bit_or mask r) i ≡ 1) ↔ SomeFrees low high i (take (n + 1) es)
 frees_more es n d mask r low high i h before here =
-    subst (λ (xs : List InFlight). Iff (bit (bit_or mask r) i ≡ 1) (SomeFrees low high i xs)) (sym (take_more es n d h))
+    subst (λ (xs : List InFlight). (bit (bit_or mask r) i ≡ 1) ↔ SomeFrees low high i xs) (sym (take_more es n d h))
     (iff_trans (or_either mask r i before here) ((any_push (λ e. Frees low high i e.issued) (take n es) (get_or es n d)).1, (any_push (λ e. Frees low high i e.issued) (take n es) (get_or es n d)).0))

@@ -4,7 +4,7 @@ use Rattle.std.specs.List.{AllByRecursion as All}
 use Rattle.std.proofs.ByRecursion.{All-append, All-weaker}
 use Rattle.std.proofs.lemmas.List.{append_assoc, append-nil}
 use Rattle.std.proofs.lemmas.List.Sums.{sum_by-cons}
-use Rattle.isa.specs.BuiltIn.{at}
+use Rattle.std.specs.List.{slice_get}
 use Rattle.admission.specs.declared.instruction.Instruction.{Instruction}
 use Rattle.hazards.specs.Lengths.{packet_length}
 use Rattle.constraints.specs.Schedules.{cycles, issue, Stands}
@@ -19,7 +19,7 @@ pub record FromSlots (k c s : ℕ) (xs : List Instruction) (q : Issued) : Type 0
   pub cycle : q.issue ≡ c
   pub turn : ℕ
   pub slot : q.place.slot ≡ s + turn
-  pub stands : at xs turn ≡ Some q.instruction
+  pub stands : slice_get xs turn ≡ Some q.instruction
 
 slots_later : (k c s : ℕ) (x : Instruction) (xs : List Instruction) (q : Issued) → FromSlots k c (s + 1) xs q → FromSlots k c s (x ∷ xs) q
 slots_later k c s x xs q f = let e = f.slot in record { packet = f.packet; cycle = f.cycle; turn = suc f.turn; slot = omega arith; stands = f.stands }
@@ -38,7 +38,7 @@ pub record Is (k s c : ℕ) (x : Instruction) (q : Issued) : Type 0 where
   pub cycle : q.issue ≡ c
   pub instruction : q.instruction ≡ x
 
-pub slots_has : (k c s : ℕ) (xs : List Instruction) (t : ℕ) (x : Instruction) → at xs t ≡ Some x → Any (Is k (s + t) c x) (slots k c s xs)
+pub slots_has : (k c s : ℕ) (xs : List Instruction) (t : ℕ) (x : Instruction) → slice_get xs t ≡ Some x → Any (Is k (s + t) c x) (slots k c s xs)
 slots_has k c s [] t x e = absurd (none_some x e)
 slots_has k c s (y ∷ xs) zero x e = (0, _, refl, record { packet = refl; slot = omega arith; cycle = refl; instruction = some_one y x e })
 slots_has k c s (y ∷ xs) (suc t) x e =
@@ -57,7 +57,7 @@ first_packet_lem k c p ps q f =
     let e = f.packet in
     let d = f.cycle in
     let n : f.turn ≡ q.place.slot = let s = f.slot in omega arith in
-    record { turn = 0; packet = omega arith; stands = (p, refl, subst (λ (m : ℕ). at p m ≡ Some q.instruction) n f.stands); cycle = omega arith }
+    record { turn = 0; packet = omega arith; stands = (p, refl, subst (λ (m : ℕ). slice_get p m ≡ Some q.instruction) n f.stands); cycle = omega arith }
 
 later_packet : (k c : ℕ) (p : List Instruction) (ps : List (List Instruction)) (q : Issued) → FromPackets (k + 1) (c + packet_length p) ps q → FromPackets k c (p ∷ ps) q
 later_packet k c p ps q f =
@@ -86,7 +86,7 @@ positions_has k c (p ∷ ps) zero s x (q, e, h) =
     let same : p ≡ q = some_one p q e in
     any_left (Is (k + 0) s (c + 0) x) (slots k c 0 p) (positions (k + 1) (c + packet_length p) ps)
     (any_like (Is k (0 + s) c x) (Is (k + 0) s (c + 0) x) (slots k c 0 p) (λ i. is_like k (0 + s) c (k + 0) s (c + 0) x i (omega arith) (omega arith) (omega arith))
-    (slots_has k c 0 p s x (subst (λ (l : List Instruction). at l s ≡ Some x) (sym same) h)))
+    (slots_has k c 0 p s x (subst (λ (l : List Instruction). slice_get l s ≡ Some x) (sym same) h)))
 positions_has k c (p ∷ ps) (suc j) s x st =
     let d = sum_by-cons packet_length p (take j ps) in
     let there = positions_has (k + 1) (c + packet_length p) ps j s x st in
@@ -108,8 +108,8 @@ positions_push k c (q ∷ ps) p =
     ∙ sym (append_assoc (slots k c 0 q) (positions (k + 1) (c + packet_length q) ps) (slots (k + length (q ∷ ps)) (c + cycles (q ∷ ps)) 0 p))
 
 -- what stands at a place of the instructions of one packet
-pub slots_at : (k c s : ℕ) (xs : List Instruction) (t : ℕ) (q : Issued) → at (slots k c s xs) t ≡ Some q
-    → (q.place.packet ≡ k) × (q.place.slot ≡ s + t) × (q.issue ≡ c) × (at xs t ≡ Some q.instruction)
+pub slots_at : (k c s : ℕ) (xs : List Instruction) (t : ℕ) (q : Issued) → slice_get (slots k c s xs) t ≡ Some q
+    → (q.place.packet ≡ k) × (q.place.slot ≡ s + t) × (q.issue ≡ c) × (slice_get xs t ≡ Some q.instruction)
 slots_at k c s [] t q e = absurd (none_some q e)
 slots_at k c s (x ∷ xs) zero q e =
     let same = some_one (issued_at k c s x) q e in
@@ -118,7 +118,7 @@ slots_at k c s (x ∷ xs) zero q e =
 slots_at k c s (x ∷ xs) (suc t) q e = let (p, n, d, i) = slots_at k c (s + 1) xs t q e in (p, omega arith, d, i)
 
 -- the instruction of a slot stands at its place
-pub slots_there : (k c s : ℕ) (xs : List Instruction) (t : ℕ) (x : Instruction) → at xs t ≡ Some x → at (slots k c s xs) t ≡ Some (issued_at k c (s + t) x)
+pub slots_there : (k c s : ℕ) (xs : List Instruction) (t : ℕ) (x : Instruction) → slice_get xs t ≡ Some x → slice_get (slots k c s xs) t ≡ Some (issued_at k c (s + t) x)
 slots_there k c s [] t x e = absurd (none_some x e)
 slots_there k c s (y ∷ xs) zero x e = let n : s ≡ s + 0 = omega arith in ap (λ (i : Instruction). Some (issued_at k c s i)) (some_one y x e) ∙ ap (λ (m : ℕ). Some (issued_at k c m x)) n
 slots_there k c s (y ∷ xs) (suc t) x e = let n : s + 1 + t ≡ s + suc t = omega arith in slots_there k c (s + 1) xs t x e ∙ ap (λ (m : ℕ). Some (issued_at k c m x)) n

@@ -1,5 +1,5 @@
 -- Sets of valuations at the packet judged, and one packet on; the entries that go on. Assumes nothing.
-use Rattle.std.proofs.Common.{◌≡◌, ℕ, ◌+◌, ◌<◌, ◌≤◌, Bool, true, false, cond, List, [], ◌∷◌, ◌++◌, map, length, get_or, take, sym, ap, ◌∙◌, subst, arith}
+use Rattle.std.proofs.Common.{◌≡◌, ℕ, ◌+◌, ◌<◌, ◌≤◌, Bool, true, false, cond, List, [], ◌∷◌, ◌++◌, map, length, get_or, take, sym, ap, ◌∙◌, subst, arith, ◌↔◌}
 use Rattle.std.specs.List.{AllByRecursion as All}
 use Rattle.std.proofs.lemmas.List.Elements.{filter-append}
 use Rattle.std.proofs.ByRecursion.{All-take, All-push}
@@ -9,7 +9,7 @@ use Rattle.isa.specs.declared.condition.Condition.{Condition}
 use Rattle.admission.specs.declared.instruction.Instruction.{Instruction}
 use Rattle.runs.specs.declared.valuations.Valuations.{Valuations}
 use Rattle.runs.specs.declared.valuations.Changes.{Changes}
-use Rattle.runs.specs.Valuations.{Iff, Meets, Has, MayChange, After}
+use Rattle.runs.specs.Valuations.{Meets, Has, MayChange, After}
 use Rattle.runs.specs.Runs.{Carries, Reaches}
 use Rattle.runs.proofs.Carrying.{carries_more}
 use Rattle.constraints.specs.Schedules.{May}
@@ -20,11 +20,11 @@ use Rattle.flight.proofs.Growing.{carries_before}
 
 -- the condition registers in m are those that may change behind the last packet
 abbrev pub Masks : Changes → List (List Instruction) → List Instruction → Type 0
-Masks m past xs = (i : ℕ) → i < 6 → Iff (MayChange m i) (May (past ++ xs ∷ []) (length past) i)
+Masks m past xs = (i : ℕ) → i < 6 → MayChange m i ↔ May (past ++ xs ∷ []) (length past) i
 
 -- a write of the packet behind: what can be reached there, under its condition
 pub carries_here : (lawful start : Valuations) (may : ℕ → ℕ → Type 0) (n : ℕ) (c : Condition) (reach r : Valuations)
-    → ((v : ℕ) → v < 64 → Iff (Has r v) (Has reach v × Meets c v)) → Reaches lawful start may n reach → Carries lawful start may n n c r
+    → ((v : ℕ) → v < 64 → Has r v ↔ (Has reach v × Meets c v)) → Reaches lawful start may n reach → Carries lawful start may n n c r
 carries_here lawful start may n c reach r members reached v hv = (
   λ h. let (there, met) = (members v hv).0 h in
       let a = (reached v hv).0 there in
@@ -34,7 +34,7 @@ carries_here lawful start may n c reach r members reached v hv = (
 
 -- a set one packet on
 pub carries_on : (lawful start : Valuations) (past : List (List Instruction)) (xs : List Instruction) (j : ℕ) (c : Condition) (set r : Valuations) (m : Changes)
-    → j ≤ length past → Masks m past xs → ((w : ℕ) → w < 64 → Iff (Has r w) (Has lawful w × After set m w))
+    → j ≤ length past → Masks m past xs → ((w : ℕ) → w < 64 → Has r w ↔ (Has lawful w × After set m w))
     → Carries lawful start (May past) (length past) j c set → Carries lawful start (May (past ++ xs ∷ [])) (length (past ++ xs ∷ [])) j c r
 carries_on lawful start past xs j c set r m le masks stepped held =
     subst (λ (n : ℕ). Carries lawful start (May (past ++ xs ∷ [])) n j c r) (sym (length_push past xs))

@@ -1,6 +1,6 @@
 -- The instructions of a schedule in their order, and those that are kept once later packets issue.
 use Rattle.std.specs.Prelude.{◌≡◌, ℕ, ◌+◌, ◌<◌, ◌≤◌, Bool, true, false, cond, List, [], ◌∷◌, ◌++◌, Some, None, filter, Option, ◌==◌, nat_le, slice_index_or}
-use Rattle.isa.specs.BuiltIn.{at}
+use Rattle.std.specs.List.{slice_get}
 use Rattle.isa.specs.Classes.{delay}
 use Rattle.isa.specs.declared.register.Register.{Register}
 use Rattle.admission.specs.declared.instruction.Instruction.{Instruction}
@@ -48,7 +48,7 @@ Frees low high i q = (j : ℕ) × (j < 3) × FreedBy q.issue low high i (slice_i
 
 -- so does one of the list
 abbrev pub SomeFrees : ℕ → ℕ → ℕ → List InFlight → Type 0
-SomeFrees low high i es = (a : ℕ) × (e : InFlight) × (at es a ≡ Some e) × Frees low high i e.issued
+SomeFrees low high i es = (a : ℕ) × (e : InFlight) × (slice_get es a ≡ Some e) × Frees low high i e.issued
 
 -- a write, if there is one, of what issued in a cycle landed at that register in the cycle before c, and is no load data
 abbrev pub SettledBy : ℕ → Register → ℕ → Option Write → Type 0
@@ -61,7 +61,7 @@ Settles r c q = (j : ℕ) × (j < 3) × SettledBy q.issue r c (slice_index_or (w
 
 -- so did one of the list
 abbrev pub SomeSettles : Register → ℕ → List InFlight → Type 0
-SomeSettles r c es = (a : ℕ) × (e : InFlight) × (at es a ≡ Some e) × Settles r c e.issued
+SomeSettles r c es = (a : ℕ) × (e : InFlight) × (slice_get es a ≡ Some e) × Settles r c e.issued
 
 -- the instruction brings over the cross path a register at which one of the list did
 abbrev pub Waits : ℕ → List InFlight → Instruction → Type 0
@@ -69,4 +69,4 @@ Waits c es x = (r : Register) × (x.cross ≡ true) × (x.s2 ≡ Some r) × Some
 
 -- one of the instructions does
 abbrev pub SomeWaits : ℕ → List InFlight → List Instruction → Type 0
-SomeWaits c es xs = (t : ℕ) × (x : Instruction) × (at xs t ≡ Some x) × Waits c es x
+SomeWaits c es xs = (t : ℕ) × (x : Instruction) × (slice_get xs t ≡ Some x) × Waits c es x

@@ -1,7 +1,7 @@
 // The condition registers that may change while packets issue.
-ghost use Rattle.std.specs.Prelude.{◌≡◌, ℕ, ◌<◌};
+ghost use Rattle.std.specs.Prelude.{◌≡◌, ℕ, ◌<◌, ◌↔◌};
 ghost use Rattle.isa.specs.Bits.{bit};
-ghost use Rattle.runs.specs.Valuations.{Iff, MayChange};
+ghost use Rattle.runs.specs.Valuations.{MayChange};
 ghost use Rattle.flight.specs.Issues.{condition_bit, FreedBy, Frees, SomeFrees};
 
 use crate::issued::{InFlight, Issued};
@@ -26,7 +26,7 @@ fn condition_bit(register: Register) -> u8
 
 // The mask of what one write frees from one cycle to just before another.
 fn freed_by(write: Option<Write>, issue: u32, low: u32, high: u32) -> u8
-    ensures bits { (i : ℕ) → i < 6 → Iff (bit result i ≡ 1) (FreedBy issue low high i write) }
+    ensures bits { (i : ℕ) → i < 6 → (bit result i ≡ 1) ↔ FreedBy issue low high i write }
 {
     let Some(write) = write else {
         return 0;
@@ -43,7 +43,7 @@ fn freed_by(write: Option<Write>, issue: u32, low: u32, high: u32) -> u8
 
 // The mask of what one instruction's writes free.
 fn freed(issued: Issued, low: u32, high: u32) -> u8
-    ensures bits { (i : ℕ) → i < 6 → Iff (bit result i ≡ 1) (Frees low high i issued) }
+    ensures bits { (i : ℕ) → i < 6 → (bit result i ≡ 1) ↔ Frees low high i issued }
 {
     let [result, odd, base] = issued.instruction.writes();
     freed_by(result, issued.issue, low, high)
@@ -53,7 +53,7 @@ fn freed(issued: Issued, low: u32, high: u32) -> u8
 
 // The condition registers of which a write lands from one cycle to just before another.
 pub(crate) fn changes(entries: &[InFlight], low: u32, high: u32) -> Changes
-    ensures members { (i : ℕ) → i < 6 → Iff (MayChange result i) (SomeFrees low high i entries.now) }
+    ensures members { (i : ℕ) → i < 6 → MayChange result i ↔ SomeFrees low high i entries.now }
 {
     let mut mask = 0u8;
     for entry in entries {

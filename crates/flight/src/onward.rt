@@ -1,9 +1,9 @@
 // The entries in flight as a packet is accepted: those that still matter, with their sets one packet on.
-ghost use Rattle.std.specs.Prelude.{◌≡◌, ℕ, ◌<◌, ◌≤◌, List, [], ◌∷◌, ◌++◌, map, length, take};
+ghost use Rattle.std.specs.Prelude.{◌≡◌, ℕ, ◌<◌, ◌≤◌, List, [], ◌∷◌, ◌++◌, map, length, take, ◌↔◌};
 ghost use Rattle.std.specs.List.{AllByRecursion};
 ghost use Rattle.admission.specs.declared.instruction.Instruction.{Instruction};
 ghost use Rattle.runs.specs.declared.valuations.Valuations.{Valuations};
-ghost use Rattle.runs.specs.Valuations.{Iff, MayChange};
+ghost use Rattle.runs.specs.Valuations.{MayChange};
 ghost use Rattle.constraints.specs.Schedules.{May};
 ghost use Rattle.flight.specs.Issues.{live, kept};
 ghost use Rattle.flight.specs.Kept.{Performed};
@@ -23,7 +23,7 @@ fn lives(issued: Issued, cycle: u32) -> bool
 // The entry one packet on.
 fn stepped(entry: InFlight, lawful: Valuations, changes: Changes) -> InFlight
     ensures issued { result.issued ≡ «entry».issued }
-    ensures performed { (start : Valuations) (past : List (List Instruction)) (xs : List Instruction) → ((i : ℕ) → i < 6 → Iff (MayChange changes i) (May (past ++ xs ∷ []) (length past) i)) → «entry».issued.place.packet ≤ length past → Performed lawful start past «entry» → Performed lawful start (past ++ xs ∷ []) result }
+    ensures performed { (start : Valuations) (past : List (List Instruction)) (xs : List Instruction) → ((i : ℕ) → i < 6 → MayChange changes i ↔ May (past ++ xs ∷ []) (length past) i) → «entry».issued.place.packet ≤ length past → Performed lawful start past «entry» → Performed lawful start (past ++ xs ∷ []) result }
 {
     InFlight {
         issued: entry.issued,
@@ -39,7 +39,7 @@ pub(crate) fn onward(
     changes: Changes,
 ) -> Bounded<InFlight, 40>
     ensures issued { map (λ e. e.issued) result ≡ take 40 (kept cycle (map (λ e. e.issued) entries.now)) }
-    ensures performed { (start : Valuations) (past : List (List Instruction)) (xs : List Instruction) → ((i : ℕ) → i < 6 → Iff (MayChange changes i) (May (past ++ xs ∷ []) (length past) i)) → AllByRecursion (λ e. e.issued.place.packet ≤ length past) entries.now → AllByRecursion (Performed lawful start past) entries.now → AllByRecursion (Performed lawful start (past ++ xs ∷ [])) result }
+    ensures performed { (start : Valuations) (past : List (List Instruction)) (xs : List Instruction) → ((i : ℕ) → i < 6 → MayChange changes i ↔ May (past ++ xs ∷ []) (length past) i) → AllByRecursion (λ e. e.issued.place.packet ≤ length past) entries.now → AllByRecursion (Performed lawful start past) entries.now → AllByRecursion (Performed lawful start (past ++ xs ∷ [])) result }
 {
     let mut list = Bounded::new(UNUSED);
     for entry in entries {

@@ -2,7 +2,7 @@
 use Rattle.std.proofs.Common.{◌≡◌, ℕ, zero, suc, ◌+◌, ◌-◌, ◌<◌, ◌≤◌, List, [], ◌∷◌, ◌++◌, length, take, Some, sym, refl, ap, ◌∙◌, subst, subst₂, inl, ⊎_elim, arith}
 use Rattle.std.proofs.lemmas.List.{length-append, length-map, length-take}
 use Rattle.std.proofs.lemmas.Bool.{cases_lt, cases_eq}
-use Rattle.isa.specs.BuiltIn.{at}
+use Rattle.std.specs.List.{slice_get}
 use Rattle.admission.specs.declared.instruction.Instruction.{Instruction}
 use Rattle.runs.specs.declared.valuations.Valuations.{Valuations}
 use Rattle.claims.specs.Claims as claims
@@ -25,7 +25,7 @@ pub record Lined (past : List (List Instruction)) (xs : List Instruction) (zs : 
   pub ahead : List Issued
   pub many : length ahead ≡ f
   pub made : issues zs ≡ ahead ++ slots (length past) (cycles past) 0 xs
-  pub old : (a : ℕ) (q : Issued) → at ahead a ≡ Some q → Stands past q.place.packet q.place.slot q.instruction × (q.issue ≡ issue past q.place.packet)
+  pub old : (a : ℕ) (q : Issued) → slice_get ahead a ≡ Some q → Stands past q.place.packet q.place.slot q.instruction × (q.issue ≡ issue past q.place.packet)
   pub order : Ordered (issues zs)
 
 -- an entry of the packet xs behind past
@@ -33,7 +33,7 @@ pub record Behind (past : List (List Instruction)) (xs : List Instruction) (f a 
   pub packet : e.issued.place.packet ≡ length past
   pub slot : f + e.issued.place.slot ≡ a
   pub cycle : e.issued.issue ≡ cycles past
-  pub stands : at xs e.issued.place.slot ≡ Some e.issued.instruction
+  pub stands : slice_get xs e.issued.place.slot ≡ Some e.issued.instruction
 
 module _ (past : List (List Instruction)) (xs : List Instruction) (zs : List InFlight) (f : ℕ) (lined : Lined past xs zs f) where
   pub lined_long : length zs ≡ f + length xs
@@ -41,47 +41,47 @@ module _ (past : List (List Instruction)) (xs : List Instruction) (zs : List InF
       let m = lined.many in
       omega (arith, length-map zs (λ (e : InFlight). e.issued), ap length lined.made, length-append lined.ahead (slots (length past) (cycles past) 0 xs), length_slots (length past) (cycles past) 0 xs)
 
-  made_at : (a : ℕ) (e : InFlight) → at zs a ≡ Some e → at (lined.ahead ++ slots (length past) (cycles past) 0 xs) a ≡ Some e.issued
-  made_at a e h = subst (λ (l : List Issued). at l a ≡ Some e.issued) lined.made (at_map (λ (z : InFlight). z.issued) zs a e h)
+  made_at : (a : ℕ) (e : InFlight) → slice_get zs a ≡ Some e → slice_get (lined.ahead ++ slots (length past) (cycles past) 0 xs) a ≡ Some e.issued
+  made_at a e h = subst (λ (l : List Issued). slice_get l a ≡ Some e.issued) lined.made (at_map (λ (z : InFlight). z.issued) zs a e h)
 
-  pub entry_behind : (a : ℕ) (e : InFlight) → at zs a ≡ Some e → f ≤ a → Behind past xs f a e
+  pub entry_behind : (a : ℕ) (e : InFlight) → slice_get zs a ≡ Some e → f ≤ a → Behind past xs f a e
   entry_behind a e h le =
       let m = lined.many in
       let n : length lined.ahead + (a - f) ≡ a = omega arith in
-      let there = sym (at_right lined.ahead (slots (length past) (cycles past) 0 xs) (a - f)) ∙ ap (at (lined.ahead ++ slots (length past) (cycles past) 0 xs)) n ∙ made_at a e h in
+      let there = sym (at_right lined.ahead (slots (length past) (cycles past) 0 xs) (a - f)) ∙ ap (slice_get (lined.ahead ++ slots (length past) (cycles past) 0 xs)) n ∙ made_at a e h in
       let (p, s, c, i) = slots_at (length past) (cycles past) 0 xs (a - f) e.issued there in
       let t : a - f ≡ e.issued.place.slot = omega arith in
-      record { packet = p; slot = omega arith; cycle = c; stands = subst (λ (k : ℕ). at xs k ≡ Some e.issued.instruction) t i }
+      record { packet = p; slot = omega arith; cycle = c; stands = subst (λ (k : ℕ). slice_get xs k ≡ Some e.issued.instruction) t i }
 
-  pub entry_old : (a : ℕ) (e : InFlight) → at zs a ≡ Some e → a < f
+  pub entry_old : (a : ℕ) (e : InFlight) → slice_get zs a ≡ Some e → a < f
       → Stands past e.issued.place.packet e.issued.place.slot e.issued.instruction × (e.issued.issue ≡ issue past e.issued.place.packet)
   entry_old a e h lt =
       let m = lined.many in
       lined.old a e.issued (sym (at_append_left lined.ahead (slots (length past) (cycles past) 0 xs) a (omega arith)) ∙ made_at a e h)
 
-  pub entry_of : (t : ℕ) (y : Instruction) → at xs t ≡ Some y → (g : InFlight) × (at zs (f + t) ≡ Some g) × (g.issued ≡ issued_at (length past) (cycles past) t y)
+  pub entry_of : (t : ℕ) (y : Instruction) → slice_get xs t ≡ Some y → (g : InFlight) × (slice_get zs (f + t) ≡ Some g) × (g.issued ≡ issued_at (length past) (cycles past) t y)
   entry_of t y h =
       let m = lined.many in
       let n : length lined.ahead + t ≡ f + t = omega arith in
       let z : 0 + t ≡ t = omega arith in
-      let there : at (issues zs) (f + t) ≡ Some (issued_at (length past) (cycles past) t y) =
-      subst (λ (l : List Issued). at l (f + t) ≡ Some (issued_at (length past) (cycles past) t y)) (sym lined.made)
-      (sym (ap (at (lined.ahead ++ slots (length past) (cycles past) 0 xs)) n) ∙ at_right lined.ahead (slots (length past) (cycles past) 0 xs) t
+      let there : slice_get (issues zs) (f + t) ≡ Some (issued_at (length past) (cycles past) t y) =
+      subst (λ (l : List Issued). slice_get l (f + t) ≡ Some (issued_at (length past) (cycles past) t y)) (sym lined.made)
+      (sym (ap (slice_get (lined.ahead ++ slots (length past) (cycles past) 0 xs)) n) ∙ at_right lined.ahead (slots (length past) (cycles past) 0 xs) t
       ∙ slots_there (length past) (cycles past) 0 xs t y h ∙ ap (λ (k : ℕ). Some (issued_at (length past) (cycles past) k y)) z) in
       at_mapped (λ (e : InFlight). e.issued) zs (f + t) (issued_at (length past) (cycles past) t y) there
 
-  pub entries_ordered : (a b : ℕ) (e g : InFlight) → at zs a ≡ Some e → at zs b ≡ Some g → a < b → EarlierPlace e.issued g.issued
+  pub entries_ordered : (a b : ℕ) (e g : InFlight) → slice_get zs a ≡ Some e → slice_get zs b ≡ Some g → a < b → EarlierPlace e.issued g.issued
   entries_ordered a b e g ea eb lt =
       ordered_at (issues zs) a b e.issued g.issued lined.order (at_map (λ (z : InFlight). z.issued) zs a e ea) (at_map (λ (z : InFlight). z.issued) zs b g eb) lt
 
 -- what stands in the first of a list stands in the list
-pub at_take : {X : Type 0} (m : ℕ) (xs : List X) (k : ℕ) → k < m → at (take m xs) k ≡ at xs k
+pub at_take : {X : Type 0} (m : ℕ) (xs : List X) (k : ℕ) → k < m → slice_get (take m xs) k ≡ slice_get xs k
 at_take zero xs k h = absurd (omega arith)
 at_take (suc m) [] k h = refl
 at_take (suc m) (x ∷ xs) zero h = refl
 at_take (suc m) (x ∷ xs) (suc k) h = at_take m xs k (omega arith)
 
-pub at_taken : {X : Type 0} (m : ℕ) (xs : List X) (k : ℕ) (x : X) → at (take m xs) k ≡ Some x → (k < m) × (at xs k ≡ Some x)
+pub at_taken : {X : Type 0} (m : ℕ) (xs : List X) (k : ℕ) (x : X) → slice_get (take m xs) k ≡ Some x → (k < m) × (slice_get xs k ≡ Some x)
 at_taken m xs k x e = let l = length-take m xs in let i = at_inside (take m xs) k x e in let h : k < m = omega arith in (h, sym (at_take m xs k h) ∙ e)
 
 module _ (lawful start : Valuations) (past : List (List Instruction)) (xs : List Instruction) (n : ℕ) where
@@ -116,23 +116,23 @@ module _ (lawful start : Valuations) (past : List (List Instruction)) (xs : List
 
 -- a kind of claim says what constraint n says of two entries, the later one of the packet; all that can clash with the packet are among the entries
 pub record Says (lawful start : Valuations) (past : List (List Instruction)) (xs : List Instruction) (zs : List InFlight) (f n : ℕ) (Meet : InFlight → InFlight → Type 0) : Type 0 where
-  pub sound : (a b : ℕ) (e g : InFlight) → at zs a ≡ Some e → at zs b ≡ Some g → f ≤ b → Meet e g → Clash lawful start past n e.issued.place.packet e.issued.instruction g.issued.instruction
-  pub complete : (a b : ℕ) (e g : InFlight) → at zs a ≡ Some e → at zs b ≡ Some g → f ≤ b → Clash lawful start past n e.issued.place.packet e.issued.instruction g.issued.instruction → Meet e g
+  pub sound : (a b : ℕ) (e g : InFlight) → slice_get zs a ≡ Some e → slice_get zs b ≡ Some g → f ≤ b → Meet e g → Clash lawful start past n e.issued.place.packet e.issued.instruction g.issued.instruction
+  pub complete : (a b : ℕ) (e g : InFlight) → slice_get zs a ≡ Some e → slice_get zs b ≡ Some g → f ≤ b → Clash lawful start past n e.issued.place.packet e.issued.instruction g.issued.instruction → Meet e g
   pub swaps : (e g : InFlight) → Meet e g → Meet g e
-  pub reaches : (k s t : ℕ) (x y : Instruction) → Stands past k s x → at xs t ≡ Some y → Clash lawful start past n k x y
-      → (a : ℕ) × (e : InFlight) × (a < f) × (at zs a ≡ Some e) × (e.issued.place.packet ≡ k) × (e.issued.place.slot ≡ s) × (e.issued.instruction ≡ x)
+  pub reaches : (k s t : ℕ) (x y : Instruction) → Stands past k s x → slice_get xs t ≡ Some y → Clash lawful start past n k x y
+      → (a : ℕ) × (e : InFlight) × (a < f) × (slice_get zs a ≡ Some e) × (e.issued.place.packet ≡ k) × (e.issued.place.slot ≡ s) × (e.issued.instruction ≡ x)
 
 module _ (lawful start : Valuations) (past : List (List Instruction)) (xs : List Instruction) (zs : List InFlight) (f : ℕ) (lined : Lined past xs zs f) (n : ℕ)
     (paired : (n ≡ 16 → ⊥) × (n ≡ 17 → ⊥)) (Meet : InFlight → InFlight → Type 0) (says : Says lawful start past xs zs f n Meet) where
   -- the claims at two places
-  meet_at : (a b : ℕ) (e g : InFlight) → at zs a ≡ Some e → at zs b ≡ Some g → Meet e g → claims.ClashAt Meet zs a b
+  meet_at : (a b : ℕ) (e g : InFlight) → slice_get zs a ≡ Some e → slice_get zs b ≡ Some g → Meet e g → claims.ClashAt Meet zs a b
   meet_at a b e g ea eb m d = subst₂ Meet (sym (at_get_or zs a e d ea)) (sym (at_get_or zs b g d eb)) m
 
-  at_meet : (a b : ℕ) (e g : InFlight) → at zs a ≡ Some e → at zs b ≡ Some g → claims.ClashAt Meet zs a b → Meet e g
+  at_meet : (a b : ℕ) (e g : InFlight) → slice_get zs a ≡ Some e → slice_get zs b ≡ Some g → claims.ClashAt Meet zs a b → Meet e g
   at_meet a b e g ea eb m = subst₂ Meet (at_get_or zs a e e ea) (at_get_or zs b g e eb) (m e)
 
   -- two entries that meet, as a clash of the packet
-  clash_of : (a b : ℕ) (e g : InFlight) → at zs a ≡ Some e → at zs b ≡ Some g → a < b → f ≤ b → Meet e g
+  clash_of : (a b : ℕ) (e g : InFlight) → slice_get zs a ≡ Some e → slice_get zs b ≡ Some g → a < b → f ≤ b → Meet e g
       → ClashAt lawful start past xs n e.issued.place.packet e.issued.place.slot g.issued.place.slot
   clash_of a b e g ea eb lt le m =
       let bg = entry_behind past xs zs f lined b g eb le in
@@ -195,7 +195,7 @@ module _ (lawful start : Valuations) (past : List (List Instruction)) (xs : List
       free m.b m.low (omega arith) m.a m.ordered m.meets
 
   -- the first clash: the constraint is broken, and these are its places
-  module _ (a b : ℕ) (e g : InFlight) (ea : at zs a ≡ Some e) (eb : at zs b ≡ Some g) (first : FirstClash Meet zs f a b) where
+  module _ (a b : ℕ) (e g : InFlight) (ea : slice_get zs a ≡ Some e) (eb : slice_get zs b ≡ Some g) (first : FirstClash Meet zs f a b) where
     here : ClashAt lawful start past xs n e.issued.place.packet e.issued.place.slot g.issued.place.slot
     here = clash_of a b e g ea eb first.ordered first.reached (at_meet a b e g ea eb first.clashing)
 
@@ -235,15 +235,15 @@ module _ (lawful start : Valuations) (past : List (List Instruction)) (xs : List
       λ l r before (x, y, st, at-t, apart, c).
           let gi : g.issued.instruction ≡ y = at_one xs g.issued.place.slot g.issued.instruction y place_of.stands at-t in
           let order = first.ordered in
-          let ordered-e : (j : ℕ) (d : InFlight) → at zs j ≡ Some d → d.issued.place.packet ≡ l → d.issued.place.slot ≡ r → j < a =
-          λ j d at-d p s. ⊎_elim (λ lt. lt) (λ ge. absurd (⊎_elim (λ same. let z : e ≡ d = at_one zs a e d ea (subst (λ (i : ℕ). at zs i ≡ Some d) same at-d) in
+          let ordered-e : (j : ℕ) (d : InFlight) → slice_get zs j ≡ Some d → d.issued.place.packet ≡ l → d.issued.place.slot ≡ r → j < a =
+          λ j d at-d p s. ⊎_elim (λ lt. lt) (λ ge. absurd (⊎_elim (λ same. let z : e ≡ d = at_one zs a e d ea (subst (λ (i : ℕ). slice_get zs i ≡ Some d) same at-d) in
           let zp = ap (λ (q : InFlight). q.issued.place.packet) z in
           let zs = ap (λ (q : InFlight). q.issued.place.slot) z in
           ⊎_elim (λ u. omega arith) (λ (u, v). omega arith) before)
           (λ differ. ⊎_elim (λ u. ⊎_elim (λ p'. omega arith) (λ (p', s'). omega arith) before) (λ (u, v). ⊎_elim (λ p'. omega arith) (λ (p', s'). omega arith) before)
           (entries_ordered past xs zs f lined a j e d ea at-d (omega arith)))
           (cases_eq j a))) (cases_lt j a) in
-          let refute : (j : ℕ) (d : InFlight) → at zs j ≡ Some d → d.issued.place.packet ≡ l → d.issued.place.slot ≡ r → d.issued.instruction ≡ x → ⊥ =
+          let refute : (j : ℕ) (d : InFlight) → slice_get zs j ≡ Some d → d.issued.place.packet ≡ l → d.issued.place.slot ≡ r → d.issued.instruction ≡ x → ⊥ =
           λ j d at-d p s i. let lt = ordered-e j d at-d p s in
           let c' : Clash lawful start past n d.issued.place.packet d.issued.instruction g.issued.instruction =
           subst (λ (v : Instruction). Clash lawful start past n d.issued.place.packet d.issued.instruction v) (sym gi)

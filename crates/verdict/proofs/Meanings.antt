@@ -3,7 +3,7 @@ use Rattle.std.proofs.Common.{◌≡◌, ℕ, zero, suc, ◌+◌, ◌<◌, ◌�
 use Rattle.std.specs.Option.{option_map}
 use Rattle.std.proofs.ByRecursion.{all_kept_by}
 use Rattle.std.proofs.lemmas.List.{take_all}
-use Rattle.isa.specs.BuiltIn.{at}
+use Rattle.std.specs.List.{slice_get}
 use Rattle.isa.specs.Classes.{delay}
 use Rattle.isa.specs.declared.register.Register.{Register}
 use Rattle.admission.specs.declared.instruction.Instruction.{Instruction}
@@ -117,7 +117,7 @@ module _ (x : Instruction) (c : ℕ) (y : Instruction) (d : ℕ) (s t : Valuatio
 
 -- constraints on what is in flight
 module _ (lawful start : Valuations) (past : List (List Instruction)) (xs : List Instruction) (zs : List InFlight) (f : ℕ) (lined : Lined past xs zs f) (joined : Joined lawful start past xs zs) where
-  entry_issue : (a : ℕ) (e : InFlight) → at zs a ≡ Some e → e.issued.issue ≡ issue past e.issued.place.packet
+  entry_issue : (a : ℕ) (e : InFlight) → slice_get zs a ≡ Some e → e.issued.issue ≡ issue past e.issued.place.packet
   entry_issue a e h =
       ⊎_elim (λ lt. (entry_old past xs zs f lined a e h lt).1)
       (λ le. let b = entry_behind past xs zs f lined a e h le in
@@ -125,7 +125,7 @@ module _ (lawful start : Valuations) (past : List (List Instruction)) (xs : List
 
   -- an instruction that may still have something to land is among the entries
   reached_by : (k s : ℕ) (x : Instruction) → Stands past k s x → cycles past ≤ issue past k + delay x.row.class + 1
-      → (a : ℕ) × (e : InFlight) × (a < f) × (at zs a ≡ Some e) × (e.issued.place.packet ≡ k) × (e.issued.place.slot ≡ s) × (e.issued.instruction ≡ x)
+      → (a : ℕ) × (e : InFlight) × (a < f) × (slice_get zs a ≡ Some e) × (e.issued.place.packet ≡ k) × (e.issued.place.slot ≡ s) × (e.issued.instruction ≡ x)
   reached_by k s x st h =
       let lt = stands_inside past k s x st in
       let same = issue_before past xs k (omega arith) in
@@ -151,10 +151,10 @@ module _ (lawful start : Valuations) (past : List (List Instruction)) (xs : List
   abbrev pub write_of : InFlight → WriteClaim
   write_of e = record { landings = landings e.issued.instruction e.issued.issue; performed = e.performed }
 
-  carried : (a : ℕ) (e : InFlight) → at zs a ≡ Some e → Performed lawful start past e
+  carried : (a : ℕ) (e : InFlight) → slice_get zs a ≡ Some e → Performed lawful start past e
   carried a e h = all_at (Performed lawful start past) zs a e joined.performed h
 
-  carried_last : (b : ℕ) (g : InFlight) → at zs b ≡ Some g → f ≤ b → Rattle.runs.specs.Runs.Carries lawful start (May past) (length past) (length past) g.issued.instruction.condition g.performed
+  carried_last : (b : ℕ) (g : InFlight) → slice_get zs b ≡ Some g → f ≤ b → Rattle.runs.specs.Runs.Carries lawful start (May past) (length past) (length past) g.issued.instruction.condition g.performed
   carried_last b g h le =
       subst (λ (j : ℕ). Rattle.runs.specs.Runs.Carries lawful start (May past) (length past) j g.issued.instruction.condition g.performed) (entry_behind past xs zs f lined b g h le).packet (carried b g h)
 

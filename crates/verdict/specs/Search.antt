@@ -2,7 +2,7 @@
 use Rattle.std.specs.Prelude.{◌≡◌, ℕ, List, Some}
 use Rattle.std.specs.Borrow.{RattleType}
 use Rattle.std.specs.Mem.{FitsInMemory}
-use Rattle.isa.specs.BuiltIn.{at}
+use Rattle.std.specs.List.{slice_get}
 use Rattle.isa.specs.declared.refusal.Refusal.{Refusal}
 use Rattle.admission.specs.declared.instruction.Instruction.{Instruction}
 use Rattle.bounded.specs.contracts.list.Bounded.{the_row}
@@ -19,8 +19,8 @@ pub record FirstFault (clash : InFlight → InFlight → Type 0) (es : List InFl
   pub clashing : FirstClash clash es low first second
   pub one : InFlight
   pub other : InFlight
-  pub stands : at es first ≡ Some one
-  pub stands_later : at es second ≡ Some other
+  pub stands : slice_get es first ≡ Some one
+  pub stands_later : slice_get es second ≡ Some other
   pub earlier : f.earlier ≡ one.issued.place
   pub later : f.later ≡ other.issued.place
 

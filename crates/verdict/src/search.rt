@@ -1,6 +1,6 @@
 // The first clash among entries, for every kind of claim, and the first slot that completes a fault of a packet as a whole.
 ghost use Rattle.std.specs.Prelude.{◌≡◌, ◌<◌, ◌≤◌, map, length, Some, MatchResult};
-ghost use Rattle.isa.specs.BuiltIn.{at};
+ghost use Rattle.std.specs.List.{slice_get};
 ghost use Rattle.claims.specs.Claims.{FreeFrom};
 ghost use Rattle.flight.specs.declared.issued.InFlight.{InFlight};
 ghost use Rattle.verdict.specs.Search.{FirstFault, SlotFault, ClaimsFitInMemory};
@@ -28,7 +28,7 @@ fn claims_of<C: EntryClaim, const N: usize>(entries: &Bounded<InFlight, N>) -> B
 // The place of an entry.
 fn place_at(entries: &[InFlight], index: usize) -> Place
     requires inside { index < length entries.now }
-    ensures value { (e : InFlight) × (at entries.now index ≡ Some e) × (result ≡ e.issued.place) }
+    ensures value { (e : InFlight) × (slice_get entries.now index ≡ Some e) × (result ≡ e.issued.place) }
 {
     entries[index].issued.place
 }

@@ -1,5 +1,5 @@
 // What is kept of the accepted packets, from packet to packet.
-ghost use Rattle.std.specs.Prelude.{◌≡◌, ◌+◌, List, [], ◌∷◌, ◌++◌, map, length, take, Decides, MatchResult};
+ghost use Rattle.std.specs.Prelude.{◌≡◌, ◌+◌, List, [], ◌∷◌, ◌++◌, map, length, take, MatchResult, ◌↔◌, IsTrue};
 ghost use Rattle.std.specs.List.{AllByRecursion};
 ghost use Rattle.isa.specs.declared.refusal.Refusal.TheVariants.{ScheduleFull};
 ghost use Rattle.admission.specs.declared.instruction.Instruction.{Instruction};
@@ -86,7 +86,7 @@ impl History {
 
     // Whether the packet behind stalls: an instruction brings over the cross path what landed just before.
     pub fn stalls(&self, packet: &Packet) -> bool
-        ensures decides { (start : Valuations) (past : List (List Instruction)) → StandsFor self.now start past → Decides result (Stalls past packet.now) }
+        ensures decides { (start : Valuations) (past : List (List Instruction)) → StandsFor self.now start past → IsTrue result ↔ Stalls past packet.now }
     {
         some_waits(packet.as_slice(), self.flight.as_slice(), self.cycle)
     }

@@ -1,10 +1,10 @@
-use Rattle.std.proofs.Common.{◌≡◌, ℕ, ◌+◌, ◌<◌, ◌≤◌, List, [], ◌∷◌, ◌++◌, length, take, sym, refl, ap, ◌∙◌, subst, arith}
+use Rattle.std.proofs.Common.{◌≡◌, ℕ, ◌+◌, ◌<◌, ◌≤◌, List, [], ◌∷◌, ◌++◌, length, take, sym, refl, ap, ◌∙◌, subst, arith, ◌↔◌}
 use Rattle.std.specs.List.{AllByRecursion as All}
 use Rattle.std.proofs.ByRecursion.{All-push}
 use Rattle.std.proofs.lemmas.List.{length_push}
 use Rattle.isa.specs.declared.condition.Condition.TheVariants.{Always}
 use Rattle.admission.specs.declared.instruction.Instruction.{Instruction}
-use Rattle.runs.specs.Valuations.{Iff, MayChange}
+use Rattle.runs.specs.Valuations.{MayChange}
 use Rattle.hazards.specs.Lengths.{packet_length}
 use Rattle.constraints.specs.Schedules.{cycles}
 use Rattle.flight.specs.declared.issued.InFlight.{InFlight}
@@ -32,8 +32,8 @@ returns c = record {
         let grown = cycles_push past xs in
         let then : next ≡ cycles (past ++ xs ∷ []) = let t = stands.time in omega arith in
         let narrow : All (λ q. length q ≤ 8) (past ++ xs ∷ []) = All-push (λ q. length q ≤ 8) past xs stands.narrow c.as_slice.ensures.few in
-        let freed : (i : ℕ) → i < 6 → Iff (MayChange m i) (SomeFrees h.cycle next i es) =
-        subst (λ (l : List InFlight). (i : ℕ) → i < 6 → Iff (MayChange m i) (SomeFrees h.cycle next i l)) c.as_slice-2.ensures.entries c.changes-freed.ensures.members in
+        let freed : (i : ℕ) → i < 6 → (MayChange m i ↔ SomeFrees h.cycle next i es) =
+        subst (λ (l : List InFlight). (i : ℕ) → i < 6 → MayChange m i ↔ SomeFrees h.cycle next i l) c.as_slice-2.ensures.entries c.changes-freed.ensures.members in
         let masks : Masks m past xs = masks_of past xs es joined.flying m h.cycle next stands.time then freed in
         let slice = c.as_slice-3.ensures.entries in
         let told : issues c.onward-self.result ≡ take 40 (kept next (issues es)) = c.onward-self.ensures.issued ∙ ap (λ l. take 40 (kept next (issues l))) slice in
