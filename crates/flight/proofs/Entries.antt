@@ -1,7 +1,7 @@
 -- What stands at the places of lists that are joined, cut or filtered. Assumes nothing.
-use Rattle.std.proofs.Common.{◌≡◌, ℕ, zero, suc, ◌+◌, Bool, true, false, cond, ◌⊎◌, List, [], ◌∷◌, ◌++◌, map, length, Some, filter, sym, refl, ap, ◌∙◌, subst, inl, inr, ⊎_elim, arith, ◌↔◌}
+use Rattle.std.proofs.Common.{◌≡◌, ℕ, zero, suc, ◌+◌, ◌<◌, Bool, true, false, cond, ◌⊎◌, List, [], ◌∷◌, ◌++◌, map, length, Some, filter, sym, refl, ap, ◌∙◌, subst, inl, inr, ⊎_elim, arith, ◌↔◌}
 use Rattle.std.specs.List.{AllByRecursion as All}
-use Rattle.std.specs.List.{slice_get}
+use Rattle.std.specs.List.{HoldsAt, slice_get}
 use Rattle.constraints.proofs.Moving.{none_some, some_one, at_inside, at_append_left}
 
 -- some entry of a list has a property
@@ -77,7 +77,7 @@ module _ {X Y : Type 0} (f : X → Y) where
 
   pub any_map : (P : Y → Type 0) (xs : List X) → Any P (map f xs) ↔ Any (λ x. P (f x)) xs
   any_map P xs = (
-    λ (a, y, e, p). let (x, slice_get, same) = at_mapped xs a y e in (a, x, slice_get, subst P (sym same) p),
+    λ (a, y, e, p). let (x, found, same) = at_mapped xs a y e in (a, x, found, subst P (sym same) p),
     λ (a, x, e, p). (a, f x, at_map xs a x e, p),
   )
 
@@ -85,3 +85,9 @@ module _ {X Y : Type 0} (f : X → Y) where
 pub all_from_at : {X : Type 0} (P : X → Type 0) (xs : List X) → ((a : ℕ) (x : X) → slice_get xs a ≡ Some x → P x) → All P xs
 all_from_at P [] f = tt
 all_from_at P (x ∷ xs) f = (f 0 x refl, all_from_at P xs (λ a y e. f (suc a) y e))
+
+-- what holds at a place inside holds of some
+pub some_at : {X : Type 0} (P : X → Type 0) (xs : List X) (k : ℕ) → k < length xs → HoldsAt P xs k → Any P xs
+some_at P [] k h holds = absurd (omega arith)
+some_at P (x ∷ xs) zero h holds = (0, x, refl, holds x)
+some_at P (x ∷ xs) (suc k) h holds = any_later P x xs (some_at P xs k (omega arith) holds)

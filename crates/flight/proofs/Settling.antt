@@ -1,7 +1,8 @@
--- One of three places, and one of a list, by tests in turn. Assumes nothing.
-use Rattle.std.proofs.Common.{◌≡◌, ℕ, ◌+◌, ◌<◌, ◌≤◌, Bool, true, false, List, length, get_or, take, Some, None, Decides, Option, sym, refl, ap, ◌∙◌, subst, ⊎_elim, arith}
+-- One of a list, and the stall of a packet. Assumes nothing.
+use Rattle.std.proofs.Common.{◌≡◌, ◌↔◌, MatchBool, ℕ, ◌+◌, ◌<◌, ◌≤◌, Bool, true, false, List, length, get_or, take, Some, None, Decides, Option, sym, refl, ap, ◌∙◌, subst, ⊎_elim, arith}
 use Rattle.std.proofs.lemmas.Bool.{both_ways}
-use Rattle.std.proofs.lemmas.List.{take_more, take_all}
+use Rattle.std.specs.List.{AllWithin, HoldsAt}
+use Rattle.std.proofs.lemmas.Option.{slice_get_within, get_or_from_slice_get}
 use Rattle.isa.specs.declared.register.Register.{Register}
 use Rattle.admission.specs.declared.instruction.Instruction.{Instruction}
 use Rattle.admission.specs.declared.instruction.Write.{Write}
@@ -11,31 +12,16 @@ use Rattle.flight.specs.declared.issued.InFlight.{InFlight}
 use Rattle.flight.specs.Issues.{SettledBy, SomeWaits}
 use Rattle.flight.specs.Kept.{FlightOf}
 use Rattle.flight.proofs.Flying.{landing_has, landing_of}
-use Rattle.flight.proofs.Entries.{Any, any_push}
-use Rattle.flight.proofs.Masks.{some_of_three}
-use Rattle.constraints.proofs.Moving.{at_from_get_or}
+use Rattle.flight.proofs.Entries.{Any, some_at}
 
-module _ {X : Type 0} (P : Option X → Type 0) (l m : List (Option X)) (same : l ≡ m) where
-  pub hit : (j : ℕ) → j < 3 → P (get_or l j None) → Decides true ((j : ℕ) × (j < 3) × P (get_or m j None))
-  hit j h p = (λ _. (j, h, subst (λ k. P (get_or k j None)) same p), λ _. refl)
-
-  pub last : (a b r : Bool) → Decides a (P (get_or l 0 None)) → a ≡ false → Decides b (P (get_or l 1 None)) → b ≡ false → Decides r (P (get_or l 2 None))
-      → Decides r ((j : ℕ) × (j < 3) × P (get_or m j None))
-  last a b r da fa db fb dr = (
-    λ t. (2, omega arith, subst (λ k. P (get_or k 2 None)) same (dr.0 t)),
-    λ s. ⊎_elim (⊎_elim (λ p. absurd (both_ways a fa (da.1 p))) (λ p. absurd (both_ways b fb (db.1 p)))) dr.1
-        ((some_of_three P l).1 (subst (λ k. (j : ℕ) × (j < 3) × P (get_or k j None)) (sym same) s)),
-  )
-
--- none among the entries so far
-pub none_more : {X : Type 0} (P : X → Type 0) (xs : List X) (n : ℕ) (d : X) → n < length xs → (Any P (take n xs) → ⊥) → (P (get_or xs n d) → ⊥) → Any P (take (n + 1) xs) → ⊥
-none_more P xs n d h before here a = ⊎_elim before here ((any_push P (take n xs) (get_or xs n d)).0 (subst (Any P) (take_more xs n d h) a))
-
-pub none_all : {X : Type 0} (P : X → Type 0) (xs : List X) (n : ℕ) → length xs ≤ n → (Any P (take n xs) → ⊥) → Decides false (Any P xs)
-none_all P xs n h free = (λ t. absurd (both_ways false refl t), λ a. absurd (free (subst (Any P) (sym (take_all n xs h)) a)))
-
-pub some_there : {X : Type 0} (P : X → Type 0) (xs : List X) (n : ℕ) (d : X) → n < length xs → P (get_or xs n d) → Decides true (Any P xs)
-some_there P xs n d h p = (λ _. (n, get_or xs n d, at_from_get_or xs n d h, p), λ _. refl)
+-- an answer that a search of a list gives, by the places at which elements stand
+pub decided_by_any : {X : Type 0} (P : X → Type 0) (xs : List X) (b : Bool)
+    → MatchBool b ((k : ℕ) × (k < length xs) × HoldsAt P xs k) (AllWithin (λ x. P x → ⊥) xs 0 (length xs)) → (b ≡ true) ↔ Any P xs
+decided_by_any P xs true (k, hk, holds) = (λ t. some_at P xs k hk holds, λ a. refl)
+decided_by_any P xs false never = (
+  λ t. absurd (both_ways false refl t),
+  λ (k, x, e, p). absurd (never k x (omega arith) (slice_get_within xs k x e) (subst P (sym (get_or_from_slice_get xs k x x e)) p)),
+)
 
 -- an instruction waits for an entry in flight just where the packet stalls
 settled_some : (issue c : ℕ) (r : Register) (o : Option Write) → SettledBy issue r c o → (w : Write) × (o ≡ Some w) × (w.register ≡ r) × (w.load ≡ false) × (issue + w.delay + 1 ≡ c)

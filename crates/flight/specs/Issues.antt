@@ -33,10 +33,6 @@ live c q = nat_le c (q.issue + delay q.instruction.row.class + 1)
 abbrev pub kept : ℕ → List Issued → List Issued
 kept c qs = filter (live c) qs
 
--- the mask of the condition register with that number; 0 for any other register
-abbrev pub condition_bit : ℕ → ℕ
-condition_bit n = cond (n == 32) 1 (cond (n == 33) 2 (cond (n == 34) 4 (cond (n == 1) 8 (cond (n == 2) 16 (cond (n == 0) 32 0)))))
-
 -- a write, if there is one, of what issued in a cycle lands from one cycle to just before another, at the condition register of place i
 abbrev pub FreedBy : ℕ → ℕ → ℕ → ℕ → Option Write → Type 0
 FreedBy issue low high i None = ⊥

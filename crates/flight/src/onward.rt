@@ -16,8 +16,8 @@ use runs::valuations::{Changes, Valuations};
 fn lives(issued: Issued, cycle: u32) -> bool
     ensures value { result ≡ live cycle issued }
 {
-    let landing = issued.issue as u64 + issued.instruction.row.class.delay() as u64;
-    cycle as u64 <= landing + 1
+    let landing = u64::from(issued.issue) + u64::from(issued.instruction.row.class.delay());
+    u64::from(cycle) <= landing + 1
 }
 
 // The entry one packet on.

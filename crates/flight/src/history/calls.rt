@@ -75,8 +75,11 @@ impl History {
             return Err(Refusal::ScheduleFull);
         }
         let entries = self.joined(packet);
-        let next = self.cycle + packet_length(packet.as_slice()) as u32;
-        let freed = changes(entries.as_slice(), self.cycle, next);
+        let next = self.cycle + u32::from(packet_length(packet.as_slice()));
+        let freed = changes(
+            entries.as_slice(),
+            &(u64::from(self.cycle)..u64::from(next)),
+        );
         self.flight = onward(entries.as_slice(), next, self.lawful, freed);
         self.reachable = self.reachable.step(self.lawful, freed);
         self.cycle = next;

@@ -1,9 +1,13 @@
-use Rattle.std.proofs.lemmas.Bool.{both_ways}
+use Rattle.std.proofs.lemmas.Iterator.{YieldsList-from_slice, cases_from_any}
+use Rattle.std.proofs.Common.{◌+◌, rules}
+use borrow.Author.Tests.{tests}
+use Rattle.flight.specs.declared.issued.InFlight.{InFlight}
 use Rattle.flight.specs.Issues.{Settles}
-use Rattle.flight.proofs.Settling.{none_more}
+use Rattle.flight.proofs.Settling.{decided_by_any}
 use Rattle.flight.proofs.stall.some_settles.Goals as goal
 
-pub loop-entry-preserved : goal.loop-entry-preserved
-loop-entry-preserved c =
-    none_more (λ e. Settles c.args.register c.args.cycle e.issued) c.args.entries.now c.loop-entry.entry-index _ c.loop-entry-test.true c.loop-entry.invariant
-    (λ s. both_ways c.settles.result c.if-settles.false (c.settles.ensures.decides.1 s))
+pub returns : goal.returns
+returns c =
+    let P : InFlight → Type 0 = λ e. Settles c.args.landing.register (c.args.landing.cycle + 1) e.issued in
+    let some = cases_from_any _ _ c.any.result P (λ e. P e → ⊥) c.any.ensures.ran (YieldsList-from_slice c.args.entries.now cc) (λ x q k. search (rules, tests)) (λ x q k. search (rules, tests)) in
+    record { decides = decided_by_any P c.args.entries.now c.any.result some }

@@ -1,4 +1,4 @@
-use Rattle.std.proofs.Common.{◌≡◌, ℕ, ◌+◌, ◌<◌, ◌≤◌, List, [], ◌∷◌, ◌++◌, length, take, sym, refl, ap, ◌∙◌, subst, arith, ◌↔◌}
+use Rattle.std.proofs.Common.{◌≡◌, ℕ, ◌+◌, ◌<◌, ◌≤◌, List, [], ◌∷◌, ◌++◌, length, take, sym, refl, ap, ◌∙◌, subst, subst₂, arith, ◌↔◌}
 use Rattle.std.specs.List.{AllByRecursion as All}
 use Rattle.std.proofs.ByRecursion.{All-push}
 use Rattle.std.proofs.lemmas.List.{length_push}
@@ -26,14 +26,15 @@ returns c = record {
         let xs : List Instruction = p in
         let es : List InFlight = c.joined-entries.result in
         let m = c.changes-freed.result in
-        let next : ℕ = h.cycle + c.packet_length.result in
+        let next : ℕ = h.cycle + c.from.result in
         let joined = c.joined-entries.ensures.joined start past stands in
         let lasts : c.packet_length.result ≡ packet_length xs = c.packet_length.ensures.value ∙ ap packet_length c.as_slice.ensures.entries in
         let grown = cycles_push past xs in
         let then : next ≡ cycles (past ++ xs ∷ []) = let t = stands.time in omega arith in
         let narrow : All (λ q. length q ≤ 8) (past ++ xs ∷ []) = All-push (λ q. length q ≤ 8) past xs stands.narrow c.as_slice.ensures.few in
         let freed : (i : ℕ) → i < 6 → (MayChange m i ↔ SomeFrees h.cycle next i es) =
-        subst (λ (l : List InFlight). (i : ℕ) → i < 6 → MayChange m i ↔ SomeFrees h.cycle next i l) c.as_slice-2.ensures.entries c.changes-freed.ensures.members in
+        subst (λ (l : List InFlight). (i : ℕ) → i < 6 → MayChange m i ↔ SomeFrees h.cycle next i l) c.as_slice-2.ensures.entries
+        (subst₂ (λ low high. (i : ℕ) → i < 6 → MayChange m i ↔ SomeFrees low high i c.as_slice-2.result.now) c.from-2.ensures c.from-3.ensures c.changes-freed.ensures.members) in
         let masks : Masks m past xs = masks_of past xs es joined.flying m h.cycle next stands.time then freed in
         let slice = c.as_slice-3.ensures.entries in
         let told : issues c.onward-self.result ≡ take 40 (kept next (issues es)) = c.onward-self.ensures.issued ∙ ap (λ l. take 40 (kept next (issues l))) slice in
