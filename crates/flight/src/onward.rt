@@ -44,6 +44,7 @@ pub(crate) fn onward(
     let mut list = Bounded::new(UNUSED);
     for entry in entries {
         if lives(entry.issued, cycle) {
+            // of packets of at most eight, no more than forty live
             let _ = list.push(stepped(*entry, lawful, changes));
         }
     }

@@ -79,6 +79,7 @@ impl<R: Repertoire> Checker<R> {
             Ok(instruction) => instruction,
             Err(refusal) => return Err(self.refused(refusal)),
         };
+        // at most seven records are open, so one more has room
         let gathered = self.gathered.len();
         if !record.marks().p {
             let _ = self.gathered.push(instruction);

@@ -59,6 +59,7 @@ impl History {
         ensures many { length result ≡ length self.now.flight + length packet.now }
         ensures joined { (start : Valuations) (past : List (List Instruction)) → StandsFor self.now start past → Joined self.now.lawful start past packet.now result }
     {
+        // at most forty are in flight and eight in a packet, so all have room
         let mut entries = Bounded::from_slice(UNUSED, self.flight.as_slice());
         let instructions = packet.as_slice();
         for (slot, instruction) in instructions.iter().enumerate() {
