@@ -1,9 +1,12 @@
 -- A packet that is complete joins what is kept, or is dropped. Assumes nothing.
-use Rattle.std.proofs.Common.{◌≡◌, ◌<◌, ◌≤◌, Bool, true, false, cond, List, Ok, Err, Result, refl, ap, arith, MatchResult}
+use Rattle.std.proofs.Common.{◌≡◌, ◌<◌, ◌≤◌, Bool, true, false, cond, List, Ok, Err, Result, refl, ap, ◌∙◌, arith, MatchResult}
+use Rattle.std.specs.Result.{IsErrAnd}
+use Rattle.std.proofs.lemmas.Result.{err_from_is_err_and}
 use mir.Val.{bool_byte}
 use Rattle.isa.specs.declared.refusal.Refusal.{Refusal}
 use Rattle.isa.specs.declared.refusal.Refusal.TheVariants.{ScheduleFull}
 use Rattle.admission.specs.declared.instruction.Instruction.{Instruction}
+use Rattle.constraints.specs.declared.fault.Fault.{Fault}
 use Rattle.flight.specs.declared.history.History.{History}
 use Rattle.flight.specs.Kept.{Accepts}
 
@@ -28,3 +31,7 @@ as_count false = refl
 pub one_at_most : (b : Bool) → cond b 1 0 ≤ 1
 one_at_most true = omega arith
 one_at_most false = omega arith
+
+-- the exit of a `?`
+pub residual : {X : Type 0} (r : Result X Fault) (e : Fault) → IsErrAnd r (λ y. y ≡ e) → r ≡ Err e
+residual r e by = let p = err_from_is_err_and r by in p.1 ∙ ap Err p.2

@@ -21,6 +21,10 @@ Fits Idle b = (b.closed ≡ false) × (b.held ≡ [])
 Fits Gathering b = (b.closed ≡ false) × (0 < length b.held) × (length b.accepted < 512)
 Fits Closed b = (b.closed ≡ true) × (b.held ≡ [])
 
+-- what the checker keeps of the accepted packets is what the book holds of them
+abbrev pub Keeps : {R : Type 0} → Checker R → Book → Type 0
+Keeps c b = (c.stalls ≡ b.stalls) × (b.stalls ≤ length b.accepted) × StandsFor c.history c.history.lawful b.accepted
+
 -- the checker stands for the book: it is in the same state, with the same records open, and what it keeps stands for the accepted packets
 pub record Stands {R : Type 0} (c : Checker R) (b : Book) : Type 0 where
   pub fits : Fits c.state b
@@ -33,6 +37,10 @@ pub record Stands {R : Type 0} (c : Checker R) (b : Book) : Type 0 where
 -- what the book of a checker knows, whose repertoire has these rows
 abbrev pub rules_of : {R : Type 0} → (ℕ → Option Row) → Checker R → Rules
 rules_of rows c = record { rows = rows; lawful = c.history.lawful }
+
+-- the repertoire and the lawful set stay
+abbrev pub KeepsRules : {R : Type 0} → Checker R → Checker R → Type 0
+KeepsRules before now = (now.repertoire ≡ before.repertoire) × (now.history.lawful ≡ before.history.lawful)
 
 -- a refusal of 1 to 10 leaves the checker exactly as it was
 abbrev pub Unchanged : {R : Type 0} → Checker R → Checker R → Result Answer Fault → Type 0

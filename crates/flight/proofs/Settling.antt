@@ -1,5 +1,5 @@
 -- One of a list, and the stall of a packet. Assumes nothing.
-use Rattle.std.proofs.Common.{◌≡◌, ◌↔◌, MatchBool, ℕ, ◌+◌, ◌<◌, ◌≤◌, Bool, true, false, List, length, get_or, take, Some, None, Decides, Option, sym, refl, ap, ◌∙◌, subst, ⊎_elim, arith}
+use Rattle.std.proofs.Common.{◌≡◌, ◌↔◌, MatchBool, ℕ, ◌+◌, ◌<◌, Bool, true, false, List, length, get_or, Some, None, Decides, Option, sym, refl, ap, ◌∙◌, subst, arith}
 use Rattle.std.proofs.lemmas.Bool.{both_ways}
 use Rattle.std.specs.List.{AllWithin, HoldsAt}
 use Rattle.std.proofs.lemmas.Option.{slice_get_within, get_or_from_slice_get}

@@ -1,5 +1,5 @@
 -- The instructions of a schedule in their order, and those that are kept once later packets issue.
-use Rattle.std.specs.Prelude.{◌≡◌, ℕ, ◌+◌, ◌<◌, ◌≤◌, Bool, true, false, cond, List, [], ◌∷◌, ◌++◌, Some, None, filter, Option, ◌==◌, nat_le, slice_index_or}
+use Rattle.std.specs.Prelude.{◌≡◌, ℕ, ◌+◌, ◌<◌, ◌≤◌, Bool, true, false, List, [], ◌∷◌, ◌++◌, Some, None, filter, Option, nat_le, slice_index_or}
 use Rattle.std.specs.List.{slice_get}
 use Rattle.isa.specs.Classes.{delay}
 use Rattle.isa.specs.declared.register.Register.{Register}

@@ -6,7 +6,7 @@ use constraints::fault::Fault;
 use flight::history::History;
 use flight::issued::{Packet, UNUSED};
 use isa::built_in::BuiltIn;
-use isa::record::Record;
+use isa::record::{Flags, Record};
 use runs::valuations::Valuations;
 use std::process::Abort;
 use std::test::Fail;
@@ -35,7 +35,7 @@ fn refused(fault: Fault) -> Outcome {
 // The instruction of a record, and whether its packet goes on.
 fn admitted(bytes: &[u8; 8]) -> Result<(Instruction, bool), Fail> {
     let (record, _) = Record::read(bytes)?;
-    Ok((admit(&BuiltIn, record)?, bytes[2] % 2 == 1))
+    Ok((admit(&BuiltIn, record)?, Flags::from(record.flags).p))
 }
 
 // Takes the records one by one, and ends with them or at the first packet that is refused.
@@ -59,8 +59,8 @@ pub(crate) fn schedule(rt: &impl Abort, lawful: u64, records: &[[u8; 8]]) -> Res
         history.accept(&packet)?;
         packet.clear();
         packets = packets.wrapping_add(1);
-        cycles = accepted.issue as u64 + accepted.length as u64;
-        stalls = stalls.wrapping_add(accepted.stall as usize);
+        cycles = u64::from(accepted.issue) + u64::from(accepted.length);
+        stalls = stalls.wrapping_add(usize::from(accepted.stall));
     }
     assert!(rt; packet.is_empty());
     Ok(Outcome::Accepted(packets, cycles, stalls))

@@ -8,13 +8,14 @@ use Rattle.isa.specs.Classes.{delay}
 use Rattle.isa.specs.declared.register.Register.{Register}
 use Rattle.admission.specs.declared.instruction.Instruction.{Instruction}
 use Rattle.admission.specs.declared.instruction.Write.{Write}
+use Rattle.admission.specs.Landings.{landing}
 use Rattle.admission.specs.Operands.{write_places}
 use Rattle.runs.specs.declared.valuations.Valuations.{Valuations}
 use Rattle.runs.proofs.Carrying.{both_there, both_back}
-use Rattle.claims.specs.declared.write.Landing.{Landing}
+use Rattle.admission.specs.declared.instruction.Landing.{Landing}
 use Rattle.claims.specs.declared.write.WriteClaim.{WriteClaim}
 use Rattle.claims.specs.Kinds.{SameUnit, TwoLongNops, SameDataPath, NonalignedPair, CrossOperands}
-use Rattle.claims.specs.Landings.{port_claim, SamePort, landing, landings, SameLanding, DoubleWrite}
+use Rattle.claims.specs.Landings.{port_claim, SamePort, landings, SameLanding, DoubleWrite}
 use Rattle.claims.specs.Mutual.{same_port_mutual, double_write_mutual}
 use Rattle.constraints.specs.Schedules.{cycles, issue, Stands, May}
 use Rattle.constraints.specs.Constraints.{WriteTogether, Beside}

@@ -4,7 +4,7 @@ ghost use Rattle.claims.specs.Landings.{landings, port_claim};
 ghost use Rattle.flight.specs.declared.issued.InFlight.{InFlight};
 
 use claims::claim::Claim;
-use claims::kinds::{AlignmentClaim, CrossPathClaim, DataPathClaim, NopClaim, UnitClaim};
+use claims::kinds::{InstructionClaim, Kind};
 use claims::port::PortClaim;
 use claims::write::WriteClaim;
 use flight::issued::InFlight;
@@ -17,43 +17,11 @@ pub trait EntryClaim: Claim + Copy {
         ensures { result ≡ claimed flying.now };
 }
 
-impl EntryClaim for UnitClaim {
-    ghost claimed = { λ e. record { 0 = e.issued.instruction } };
+impl<K: Kind + Copy> EntryClaim for InstructionClaim<K> {
+    ghost claimed = { λ e. record { instruction = e.issued.instruction; kind = record {} } };
 
-    fn of(flying: &InFlight) -> UnitClaim {
-        UnitClaim(flying.issued.instruction)
-    }
-}
-
-impl EntryClaim for NopClaim {
-    ghost claimed = { λ e. record { 0 = e.issued.instruction } };
-
-    fn of(flying: &InFlight) -> NopClaim {
-        NopClaim(flying.issued.instruction)
-    }
-}
-
-impl EntryClaim for DataPathClaim {
-    ghost claimed = { λ e. record { 0 = e.issued.instruction } };
-
-    fn of(flying: &InFlight) -> DataPathClaim {
-        DataPathClaim(flying.issued.instruction)
-    }
-}
-
-impl EntryClaim for AlignmentClaim {
-    ghost claimed = { λ e. record { 0 = e.issued.instruction } };
-
-    fn of(flying: &InFlight) -> AlignmentClaim {
-        AlignmentClaim(flying.issued.instruction)
-    }
-}
-
-impl EntryClaim for CrossPathClaim {
-    ghost claimed = { λ e. record { 0 = e.issued.instruction } };
-
-    fn of(flying: &InFlight) -> CrossPathClaim {
-        CrossPathClaim(flying.issued.instruction)
+    fn of(flying: &InFlight) -> InstructionClaim<K> {
+        InstructionClaim::new(flying.issued.instruction)
     }
 }
 

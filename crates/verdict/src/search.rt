@@ -63,17 +63,13 @@ pub(crate) fn no_excess<F: PacketFault>(
     ensures cases { MatchResult result (λ _. F.PacketFault.fault kind.now packet.now → ⊥) (SlotFault (F.PacketFault.fault kind.now) packet.now packets refusal) }
 {
     match first_slot(kind, packet) {
-        Some(slot) => {
-            let place = Place {
+        Some(slot) => Err(Fault::at(
+            refusal,
+            Place {
                 packet: packets,
                 slot,
-            };
-            Err(Fault {
-                refusal,
-                later: place,
-                earlier: place,
-            })
-        }
+            },
+        )),
         None => Ok(()),
     }
 }

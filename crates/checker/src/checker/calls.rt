@@ -1,20 +1,21 @@
 // The checker's calls.
-ghost use Rattle.std.specs.Prelude.{◌≡◌, false, List, [], length, ◌≢◌};
+ghost use Rattle.std.specs.Prelude.{◌≡◌, false, List, [], length, ◌≢◌, MatchResult};
 ghost use Rattle.admission.specs.declared.instruction.Instruction.{Instruction};
+ghost use Rattle.constraints.specs.Faults.{AcceptedAs, RefusedWith};
 ghost use Rattle.flight.specs.Kept.{StandsFor};
 ghost use Rattle.book.specs.declared.calls.Call.TheVariants.{Take, Close};
-ghost use Rattle.book.specs.Books.{Book, Standing, totals, opened, opening, SaysTake, after_take};
-ghost use Rattle.checker.specs.Stands.{rules_of, Stands, Unchanged, Serves, Complete, Verdict, after_packet};
+ghost use Rattle.book.specs.Books.{Book, Standing, totals, opened, opening, SaysTake, after_take, accepting};
+ghost use Rattle.checker.specs.Stands.{rules_of, KeepsRules, Keeps, Stands, Unchanged, Serves, Complete, Verdict, after_packet};
 
 use crate::checker::{Checker, Opened, State};
 use admission::admit::admit;
 use admission::instruction::Instruction;
 use book::calls::{Answer, Call, Totals};
 use bounded::list::Bounded;
-use constraints::fault::{Fault, Place};
+use constraints::fault::{Accepted, Fault, Place};
 use flight::history::History;
 use flight::issued::UNUSED;
-use isa::record::Record;
+use isa::record::{Flags, Record};
 use isa::refusal::Refusal;
 use isa::repertoire::Repertoire;
 use runs::valuations::Valuations;
@@ -41,39 +42,36 @@ impl<R: Repertoire> Checker<R> {
             packet: self.history.packets(),
             slot: self.gathered.len(),
         };
-        Fault {
-            refusal,
-            later: place,
-            earlier: place,
-        }
+        Fault::at(refusal, place)
+    }
+
+    // The verdict on the open records as a packet, which joins the accepted ones unless it is refused.
+    fn judged(&mut self) -> Result<Accepted, Fault>
+        ensures verdict { (b : Book) (xs : List Instruction) → Complete self.old b xs → MatchResult result (λ a. AcceptedAs self.old.history.lawful self.old.history.lawful b.accepted xs a × Keeps self.new (accepting b xs a)) (λ f. RefusedWith self.old.history.lawful self.old.history.lawful b.accepted xs f × Keeps self.new b) }
+        ensures rules { KeepsRules self.old self.new }
+    {
+        let accepted = judge(&self.history, &self.gathered)?;
+        // there is room, since a packet is begun only where there is
+        let _ = self.history.accept(&self.gathered);
+        self.stalls = self.stalls.saturating_add(usize::from(accepted.stall));
+        Ok(accepted)
     }
 
     // The packet that is complete: accepted or refused, and no record is open then.
     fn complete(&mut self) -> Result<Answer, Fault>
         ensures verdict { (b : Book) (xs : List Instruction) → Complete self.old b xs → Verdict self.old.history.lawful b xs result × Stands self.new (after_packet b xs result) }
-        ensures rules { (self.new.repertoire ≡ self.old.repertoire) × (self.new.history.lawful ≡ self.old.history.lawful) }
+        ensures rules { KeepsRules self.old self.new }
     {
-        match judge(&self.history, &self.gathered) {
-            Ok(accepted) => {
-                // there is room, since a packet is begun only where there is
-                let _ = self.history.accept(&self.gathered);
-                self.stalls = self.stalls.saturating_add(accepted.stall as usize);
-                self.gathered.clear();
-                self.state = State::Idle;
-                Ok(Answer::Accepted(accepted))
-            }
-            Err(fault) => {
-                self.gathered.clear();
-                self.state = State::Idle;
-                Err(fault)
-            }
-        }
+        let verdict = self.judged();
+        self.gathered.clear();
+        self.state = State::Idle;
+        Ok(Answer::Accepted(verdict?))
     }
 
     // The record joins the open ones, unless it does not fit or would leave eight open; without p it completes the packet.
     fn add(&mut self, record: Record) -> Result<Answer, Fault>
         ensures serves { (b : Book) → Stands self.old b → b.closed ≡ false → (length b.accepted ≡ 512 → b.held ≢ []) → SaysTake (rules_of (R.Repertoire.map self.old.repertoire) self.old) b «record» result × Stands self.new (after_take (rules_of (R.Repertoire.map self.old.repertoire) self.old) b «record» result) × Unchanged self.old self.new result }
-        ensures rules { (self.new.repertoire ≡ self.old.repertoire) × (self.new.history.lawful ≡ self.old.history.lawful) }
+        ensures rules { KeepsRules self.old self.new }
     {
         let instruction = match admit(&self.repertoire, record) {
             Ok(instruction) => instruction,
@@ -81,7 +79,7 @@ impl<R: Repertoire> Checker<R> {
         };
         // at most seven records are open, so one more has room
         let gathered = self.gathered.len();
-        if !record.marks().p {
+        if !Flags::from(record.flags).p {
             let _ = self.gathered.push(instruction);
             return self.complete();
         }
@@ -96,7 +94,7 @@ impl<R: Repertoire> Checker<R> {
     // One call, by the checker's state.
     pub fn call(&mut self, call: Call) -> Result<Answer, Fault>
         ensures serves { Serves (rules_of (R.Repertoire.map self.old.repertoire) self.old) self.old call self.new result }
-        ensures rules { (self.new.repertoire ≡ self.old.repertoire) × (self.new.history.lawful ≡ self.old.history.lawful) }
+        ensures rules { KeepsRules self.old self.new }
     {
         match (self.state, call) {
             (_, Call::Totals) => Ok(Answer::Totals(self.totals())),
@@ -104,8 +102,7 @@ impl<R: Repertoire> Checker<R> {
             (State::Idle, Call::Take(_)) if self.history.packets() >= 512 => {
                 Err(self.refused(Refusal::ScheduleFull))
             }
-            (State::Idle, Call::Take(record)) => self.add(record),
-            (State::Gathering, Call::Take(record)) => self.add(record),
+            (State::Idle | State::Gathering, Call::Take(record)) => self.add(record),
             (State::Gathering, Call::Close) => Err(self.refused(Refusal::RecordsOpen)),
             (State::Idle, Call::Close) => {
                 let totals = self.totals();
@@ -118,7 +115,7 @@ impl<R: Repertoire> Checker<R> {
     // One record more.
     pub fn take(&mut self, record: Record) -> Result<Answer, Fault>
         ensures serves { Serves (rules_of (R.Repertoire.map self.old.repertoire) self.old) self.old (Take «record») self.new result }
-        ensures rules { (self.new.repertoire ≡ self.old.repertoire) × (self.new.history.lawful ≡ self.old.history.lawful) }
+        ensures rules { KeepsRules self.old self.new }
     {
         self.call(Call::Take(record))
     }
@@ -126,7 +123,7 @@ impl<R: Repertoire> Checker<R> {
     // No record more.
     pub fn close(&mut self) -> Result<Answer, Fault>
         ensures serves { Serves (rules_of (R.Repertoire.map self.old.repertoire) self.old) self.old Close self.new result }
-        ensures rules { (self.new.repertoire ≡ self.old.repertoire) × (self.new.history.lawful ≡ self.old.history.lawful) }
+        ensures rules { KeepsRules self.old self.new }
     {
         self.call(Call::Close)
     }
@@ -159,11 +156,7 @@ impl<R: Repertoire> Checker<R> {
         let place = Place { packet: 0, slot: 0 };
         Opened {
             checker: Checker::begun(repertoire, lawful, State::Closed),
-            refused: Some(Fault {
-                refusal: Refusal::LawfulSetEmpty,
-                later: place,
-                earlier: place,
-            }),
+            refused: Some(Fault::at(Refusal::LawfulSetEmpty, place)),
         }
     }
 }

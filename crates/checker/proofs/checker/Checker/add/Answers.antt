@@ -23,8 +23,8 @@ returns-in-Err-clause-serves g c =
       λ _. refl,
     )
 
-pub returns-then-not-marks-clause-serves : goal.returns-then-not-marks-clause-serves
-returns-then-not-marks-clause-serves g c =
+pub returns-then-not-from-clause-serves : goal.returns-then-not-from-clause-serves
+returns-then-not-from-clause-serves g c =
     let s = c.args.self.now in
     let r = c.args.record in
     let i = c.in-Ok.instruction in

@@ -1,51 +1,22 @@
-use Rattle.std.proofs.Common.{List, [], ◌∷◌, ◌++◌, sym, refl, subst, arith}
-use Rattle.std.proofs.lemmas.List.{length_push}
-use Rattle.admission.specs.declared.instruction.Instruction.{Instruction}
-use Rattle.runs.specs.declared.valuations.Valuations.{Valuations}
-use Rattle.constraints.specs.Faults.{AcceptedAs, RefusedWith}
-use Rattle.flight.specs.Kept.{StandsFor}
-use Rattle.checker.proofs.Completing.{joins, same_lawful, as_count, one_at_most}
+use Rattle.std.proofs.Common.{Result, refl, sym, subst, arith}
+use Rattle.constraints.specs.declared.fault.Fault.{Fault}
+use Rattle.book.specs.declared.calls.Answer.{Answer}
+use Rattle.checker.specs.declared.checker.State.TheVariants.{Idle}
+use Rattle.checker.specs.Stands.{Stands, Verdict, after_packet}
+use Rattle.checker.proofs.Completing.{residual}
 use Rattle.checker.proofs.checker.Checker.complete.Goals as goal
 
-pub returns-in-Ok-clause-verdict : goal.returns-in-Ok-clause-verdict
-returns-in-Ok-clause-verdict g c =
-    let s = c.args.self.now in
-    let h = s.history in
-    let lawful = same_lawful h s.gathered c.accept.new.self c.accept.result c.accept.ensures.cases in
-    λ b xs complete. (
-      subst (λ (l : List Instruction). AcceptedAs h.lawful h.lawful b.accepted l c.in-Ok.accepted) complete.gathered (c.in-Ok.ensures.verdict h.lawful b.accepted complete.history),
-      let added = c.saturating_add-self.ensures in
-          let one = as_count c.in-Ok.accepted.stall in
-          let small = one_at_most c.in-Ok.accepted.stall in
-          let st = complete.stalls in
-          let calm = complete.calm in
-          let room = complete.room in
-          let many = complete.history.many in
-          let longer = length_push b.accepted xs in
-          let joined = joins h s.gathered c.accept.new.self c.accept.result (omega arith) c.accept.ensures.cases in
-          record {
-            fits = (complete.going, refl);
-            held = c.clear.ensures.none;
-            short = omega arith;
-            stalls = omega arith;
-            calm = omega arith;
-            history = subst (λ (v : Valuations). StandsFor c.accept.new.self v (b.accepted ++ xs ∷ [])) (sym lawful)
-                (subst (λ (l : List Instruction). StandsFor c.accept.new.self h.lawful (b.accepted ++ l ∷ [])) complete.gathered (joined.stands h.lawful b.accepted complete.history));
-          },
-    )
+pub returns-in_err-verdict-clause-verdict : goal.returns-in_err-verdict-clause-verdict
+returns-in_err-verdict-clause-verdict g c =
+    let f = c.in_err-verdict.field-0.0 in
+    λ b xs complete.
+    let now = record c.judged-verdict.new.self { state = Idle; gathered = c.clear.new.self } in
+    let same = residual c.from_residual.result f c.from_residual.ensures.1 in
+    let (told, (stalls, calm, history)) = c.in_err-verdict.ensures.verdict b xs complete in
+    subst (λ (r : Result Answer Fault). Verdict c.args.self.now.history.lawful b xs r × Stands now (after_packet b xs r)) (sym same)
+    (told, record { fits = (complete.going, refl); held = c.clear.ensures.none; short = omega arith; stalls = stalls; calm = calm; history = history })
 
-pub returns-in-Err-clause-verdict : goal.returns-in-Err-clause-verdict
-returns-in-Err-clause-verdict g c =
-    let s = c.args.self.now in
-    let h = s.history in
-    λ b xs complete. (
-      subst (λ (l : List Instruction). RefusedWith h.lawful h.lawful b.accepted l c.in-Err.fault) complete.gathered (c.in-Err.ensures.verdict h.lawful b.accepted complete.history),
-      record {
-        fits = (complete.going, refl);
-        held = c.clear-in-Err.ensures.none;
-        short = omega arith;
-        stalls = complete.stalls;
-        calm = complete.calm;
-        history = complete.history;
-      },
-    )
+pub returns-clause-verdict : goal.returns-clause-verdict
+returns-clause-verdict g c = λ b xs complete.
+    let (told, (stalls, calm, history)) = c.in_ok-verdict.ensures.verdict b xs complete in
+    (told, record { fits = (complete.going, refl); held = c.clear.ensures.none; short = omega arith; stalls = stalls; calm = calm; history = history })
