@@ -113,7 +113,7 @@ const LDB: Row = LDW;
 const STB: Row = STW;
 
 // The row of operation n stands at place n.
-const ROWS: &[Row; 22] = &[
+const ROWS: [Row; 22] = [
     NOP, ADD, SUB, AND, MV, SHL, SHR, MPY, SMPY2, DOTP2, AVG2, LDW, LDB, LDNW, LDDW, STW, STB,
     STNW, STDW, STNDW, CMPGT2, AVGU4,
 ];
@@ -124,9 +124,9 @@ pub struct BuiltIn;
 impl Repertoire for BuiltIn {
     ghost map = { λ _. built_in_map };
 
-    ghost lawful = { λ _. built_in_lawful };
-
     fn row(&self, operation: u8) -> Option<Row> {
         ROWS.get(usize::from(operation)).copied()
     }
+
+    ghost lawful = { λ _. built_in_lawful };
 }

@@ -9,10 +9,10 @@ pub trait Repertoire {
     // The rows, by operation number.
     ghost map: { Self → ℕ → Option Row };
 
-    // Every row of the map keeps the rule.
-    ghost lawful: { (x : Self) → Lawful (map x) };
-
     // The row of an operation, or none.
     fn row(&self, operation: u8) -> Option<Row>
         ensures { result ≡ map self.now operation };
+
+    // Every row of the map keeps the rule.
+    ghost lawful: { (x : Self) → Lawful (map x) };
 }

@@ -19,8 +19,6 @@ pub struct RowFile<'a> {
 impl<'a> Repertoire for RowFile<'a> {
     ghost map = { λ f. entries_map f.entries.now };
 
-    ghost lawful = { λ f. entries_lawful f.entries.now };
-
     fn row(&self, operation: u8) -> Option<Row> {
         match self
             .entries
@@ -30,6 +28,8 @@ impl<'a> Repertoire for RowFile<'a> {
             Err(_) => None,
         }
     }
+
+    ghost lawful = { λ f. entries_lawful f.entries.now };
 }
 
 // Whether every entry has a row.
