@@ -21,8 +21,8 @@ pub struct Fault {
 impl Fault {
     // A fault of one place, which stands for both.
     pub fn at(refusal: Refusal, place: Place) -> Fault
-        ensures refusal { result.refusal ≡ refusal }
-        ensures places { (result.later ≡ place) × (result.earlier ≡ place) }
+        ensures reason { result.refusal ≡ refusal }
+        ensures place { (result.later ≡ place) × (result.earlier ≡ place) }
     {
         Fault {
             refusal,

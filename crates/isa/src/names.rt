@@ -58,7 +58,7 @@ impl fmt::Display for Class {
     ghost output = { λ class. Some (class_name class) };
 
     fn fmt<W: fmt::Write>(&self, f: &mut fmt::Formatter<W>) -> fmt::Result {
-        f.write_str(self.name())
+        f.write_str(Class::name(*self))
     }
 }
 
@@ -66,7 +66,7 @@ impl fmt::Display for Width {
     ghost output = { λ width. Some (width_name width) };
 
     fn fmt<W: fmt::Write>(&self, f: &mut fmt::Formatter<W>) -> fmt::Result {
-        f.write_str(self.name())
+        f.write_str(Width::name(*self))
     }
 }
 
@@ -74,6 +74,6 @@ impl fmt::Display for FunctionalUnit {
     ghost output = { λ unit. Some (unit_name unit) };
 
     fn fmt<W: fmt::Write>(&self, f: &mut fmt::Formatter<W>) -> fmt::Result {
-        f.write_str(self.name())
+        f.write_str(FunctionalUnit::name(*self))
     }
 }
