@@ -5,6 +5,7 @@ use std::test::Fail;
 
 const ALL: Valuations = Valuations { bits: u64::MAX };
 
+// The changes are given as masks, from outside the type's own calls.
 // Whether some run performs a write of packet 0 under the first condition byte, and one of the last packet under the second.
 fn both(
     lawful: Valuations,

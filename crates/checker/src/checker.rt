@@ -28,7 +28,7 @@ pub struct Checker<R: Repertoire> {
     stalls: usize,
 }
 
-// A new checker, and why it is closed at once, if it is.
+// A new checker, and why it is closed at once, if it is. A refused one is there all the same, so this is no `Result`.
 #[derive(Drop)]
 pub struct Opened<R: Repertoire> {
     pub checker: Checker<R>,

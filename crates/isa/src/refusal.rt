@@ -32,6 +32,7 @@ pub enum Refusal {
 }
 
 impl Refusal {
+    // Not a `From`: `u8::from` would not say that this is the number.
     pub fn number(self) -> u8
         ensures value { result ≡ number self }
     {

@@ -7,7 +7,7 @@ use isa::row::Row;
 use isa::unit::Units;
 use isa::width::Width;
 
-// The nonaligned mark that a byte names.
+// The nonaligned mark that a byte names. `bool` has no `TryFrom` of a byte.
 fn mark_from_byte(byte: u8) -> Option<bool>
     ensures { result ≡ mark_of byte }
 {

@@ -25,7 +25,7 @@ fn claims_of<C: EntryClaim, const N: usize>(entries: &Bounded<InFlight, N>) -> B
     claims
 }
 
-// The place of an entry.
+// The place of an entry that a search found.
 fn place_at(entries: &[InFlight], index: usize) -> Place
     requires inside { index < length entries.now }
     ensures value { (e : InFlight) × (slice_get entries.now index ≡ Some e) × (result ≡ e.issued.place) }
