@@ -47,9 +47,9 @@ abbrev pub Unchanged : {R : Type 0} → Checker R → Checker R → Result Answe
 Unchanged before now (Err f) = number f.refusal ≤ 10 → now ≡ before
 Unchanged before now (Ok a) = Unit {0}
 
--- the answer is what every book that the checker stands for says, and the checker then stands for what that book holds after the call
-abbrev pub Serves : {R : Type 0} → Rules → Checker R → Call → Checker R → Result Answer Fault → Type 0
-Serves k before c now a = (b : Book) → Stands before b → Says k b c a × Stands now (after k b c a) × Unchanged before now a
+-- on a repertoire with these rows, the answer is what every book that the checker stands for says, and the checker then stands for what that book holds after the call
+abbrev pub Serves : {R : Type 0} → (ℕ → Option Row) → Checker R → Call → Checker R → Result Answer Fault → Type 0
+Serves rows before c now a = (b : Book) → Stands before b → Says (rules_of rows before) b c a × Stands now (after (rules_of rows before) b c a) × Unchanged before now a
 
 -- the checker has completed the packet xs of the book, which is still to be judged
 pub record Complete {R : Type 0} (c : Checker R) (b : Book) (xs : List Instruction) : Type 0 where

@@ -6,7 +6,7 @@ use constraints::fault::Fault;
 use flight::history::History;
 use flight::issued::{Packet, UNUSED};
 use isa::built_in::BuiltIn;
-use isa::record::{Flags, Record};
+use isa::record::Record;
 use runs::valuations::Valuations;
 use std::process::Abort;
 use std::test::Fail;
@@ -35,7 +35,7 @@ fn refused(fault: Fault) -> Outcome {
 // The instruction of a record, and whether its packet goes on.
 fn admitted(bytes: &[u8; 8]) -> Result<(Instruction, bool), Fail> {
     let (record, _) = Record::read(bytes)?;
-    Ok((admit(&BuiltIn, record)?, Flags::from(record.flags).p))
+    Ok((admit(&BuiltIn, record)?, bytes[2] % 2 == 1))
 }
 
 // Takes the records one by one, and ends with them or at the first packet that is refused.
