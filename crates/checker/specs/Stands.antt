@@ -34,9 +34,13 @@ pub record Stands {R : Type 0} (c : Checker R) (b : Book) : Type 0 where
   pub calm : b.stalls ≤ length b.accepted
   pub history : StandsFor c.history c.history.lawful b.accepted
 
+-- what a book knows that is kept on these rows and this lawful set
+abbrev pub rules_on : (ℕ → Option Row) → Valuations → Rules
+rules_on rows lawful = record { rows = rows; lawful = lawful }
+
 -- what the book of a checker knows, whose repertoire has these rows
 abbrev pub rules_of : {R : Type 0} → (ℕ → Option Row) → Checker R → Rules
-rules_of rows c = record { rows = rows; lawful = c.history.lawful }
+rules_of rows c = rules_on rows c.history.lawful
 
 -- the repertoire and the lawful set stay
 abbrev pub KeepsRules : {R : Type 0} → Checker R → Checker R → Type 0
