@@ -1,5 +1,6 @@
 // An instruction: a record that was admitted, by typed fields, with its row. p is not part of it.
-ghost use Rattle.std.specs.Prelude.{◌≡◌};
+ghost use Rattle.std.specs.Prelude.{◌≡◌, ◌+◌};
+ghost use Rattle.isa.specs.Classes.{delay};
 ghost use Rattle.admission.specs.Landings.{landing};
 ghost use Rattle.admission.specs.Operands.{halves, stored_width, result_width, result_write, base_write, present, reads, read_places, writes, write_places};
 
@@ -109,6 +110,13 @@ fn result_width(row: Row) -> Width
 }
 
 impl Instruction {
+    // The cycle in which the result lands, if the instruction issues in a cycle.
+    pub fn result_cycle(&self, issue: u32) -> u64
+        ensures value { result ≡ issue + delay self.now.row.class }
+    {
+        u64::from(issue) + u64::from(self.row.class.delay())
+    }
+
     // Each register that is read, at its own place: two for s1, two for s2, two for a store's dst.
     pub fn reads(self) -> [Option<Register>; 6]
         ensures places { result ≡ read_places self }

@@ -1,9 +1,8 @@
 // The refusals 4 to 8 of a record on its row, one test each.
-// Each test is said of the bytes themselves, whatever the others say, so no byte is a register before all were made.
+// Each test is told of the bytes themselves, as the rules tell it, so that no test relies on another.
 ghost use Rattle.std.specs.Prelude.{◌≡◌};
 ghost use Rattle.admission.specs.Refusals.{no_register, wrong_count, out_of_range, condition_forbidden, unit_forbidden, wrong_operand, wrong_first, operand_mismatch, flag_forbidden, wrong_side, path_of, side_of_s2, side_of_dst, side_or_flag};
 ghost use Rattle.isa.specs.Records.{flags_of};
-ghost use Rattle.isa.specs.Units.{unit_side};
 
 use isa::class::Class;
 use isa::condition::Condition;
@@ -128,16 +127,6 @@ impl Candidate {
         }
     }
 
-    fn unit_side(self) -> Side
-        ensures value { result ≡ unit_side self.«record».unit }
-    {
-        if self.record.unit < 5 {
-            Side::A
-        } else {
-            Side::B
-        }
-    }
-
     // The side whose data path T names.
     pub(crate) fn path(self) -> Side
         ensures value { result ≡ path_of self.«record» }
@@ -148,7 +137,7 @@ impl Candidate {
     fn side_of_s2(self) -> Side
         ensures value { result ≡ side_of_s2 self.«record» }
     {
-        let side = self.unit_side();
+        let side = Side::of_unit(self.record.unit);
         if self.flags().x {
             side.opposite()
         } else {
@@ -161,7 +150,7 @@ impl Candidate {
     {
         match self.row.class {
             Class::Load | Class::Store => self.path(),
-            _ => self.unit_side(),
+            _ => Side::of_unit(self.record.unit),
         }
     }
 
@@ -169,7 +158,7 @@ impl Candidate {
         ensures value { result ≡ side_or_flag self.row self.«record» }
     {
         self.flag_forbidden()
-            || wrong_side(self.record.s1, self.unit_side())
+            || wrong_side(self.record.s1, Side::of_unit(self.record.unit))
             || wrong_side(self.record.s2, self.side_of_s2())
             || wrong_side(self.record.dst, self.side_of_dst())
     }

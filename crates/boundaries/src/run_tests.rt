@@ -3,9 +3,8 @@ use isa::condition::Condition;
 use runs::valuations::{Changes, Valuations};
 use std::test::Fail;
 
-const ALL: Valuations = Valuations { bits: u64::MAX };
+const ALL: Valuations = Valuations::ALL;
 
-// The changes are given as masks, from outside the type's own calls.
 // Whether some run performs a write of packet 0 under the first condition byte, and one of the last packet under the second.
 fn both(
     lawful: Valuations,
@@ -17,6 +16,7 @@ fn both(
     let mut reach = Valuations::at_start(lawful, start);
     let mut performed = reach.performing(Condition::try_from(first)?);
     for mask in changes {
+        // given as a mask, from outside the type's own calls
         let changes = Changes { mask: *mask };
         reach = reach.step(lawful, changes);
         performed = performed.step(lawful, changes);

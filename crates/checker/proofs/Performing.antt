@@ -21,9 +21,9 @@ says_push k b (d ∷ cs) (w ∷ vs) c v (first, rest) says = let (more, same) = 
 pub performs_none : {R : Type 0} (k : Rules) (b : Book) (old : List (Result Answer Fault)) (c : Checker R) → Stands c b → Performs k b [] old old c
 performs_none k b old c stands = record { answers = []; added = sym (append-nil old); says = tt; stands = stands }
 
-pub performs_more : {R : Type 0} (k j : Rules) (b : Book) (cs : List Call) (n : ℕ) (d : Call) (old new newer : List (Result Answer Fault)) (c after-c : Checker R) (v : Result Answer Fault) → n < length cs → j ≡ k
-    → Performs k b (take n cs) old new c → Serves j c (get_or cs n d) after-c v → newer ≡ new ++ v ∷ [] → Performs k b (take (n + 1) cs) old newer after-c
-performs_more {R} k j b cs n d old new newer c after-c v h same p serves pushed =
+pub performs_more : {R : Type 0} (k : Rules) (rows : ℕ → Option Row) (b : Book) (cs : List Call) (n : ℕ) (d : Call) (old new newer : List (Result Answer Fault)) (c after-c : Checker R) (v : Result Answer Fault) → n < length cs → rules_of rows c ≡ k
+    → Performs k b (take n cs) old new c → Serves rows c (get_or cs n d) after-c v → newer ≡ new ++ v ∷ [] → Performs k b (take (n + 1) cs) old newer after-c
+performs_more {R} k rows b cs n d old new newer c after-c v h same p serves pushed =
     let x = get_or cs n d in
     let now = after_all k b (take n cs) p.answers in
     let told = subst (λ (r : Rules). Says r now x v × Stands after-c (after r now x v) × Unchanged c after-c v) same (serves now p.stands) in

@@ -34,9 +34,13 @@ pub record Stands {R : Type 0} (c : Checker R) (b : Book) : Type 0 where
   pub calm : b.stalls ≤ length b.accepted
   pub history : StandsFor c.history c.history.lawful b.accepted
 
+-- what a book knows that is kept on these rows and this lawful set
+abbrev pub rules_on : (ℕ → Option Row) → Valuations → Rules
+rules_on rows lawful = record { rows = rows; lawful = lawful }
+
 -- what the book of a checker knows, whose repertoire has these rows
 abbrev pub rules_of : {R : Type 0} → (ℕ → Option Row) → Checker R → Rules
-rules_of rows c = record { rows = rows; lawful = c.history.lawful }
+rules_of rows c = rules_on rows c.history.lawful
 
 -- the repertoire and the lawful set stay
 abbrev pub KeepsRules : {R : Type 0} → Checker R → Checker R → Type 0
@@ -47,9 +51,9 @@ abbrev pub Unchanged : {R : Type 0} → Checker R → Checker R → Result Answe
 Unchanged before now (Err f) = number f.refusal ≤ 10 → now ≡ before
 Unchanged before now (Ok a) = Unit {0}
 
--- the answer is what every book that the checker stands for says, and the checker then stands for what that book holds after the call
-abbrev pub Serves : {R : Type 0} → Rules → Checker R → Call → Checker R → Result Answer Fault → Type 0
-Serves k before c now a = (b : Book) → Stands before b → Says k b c a × Stands now (after k b c a) × Unchanged before now a
+-- on a repertoire with these rows, the answer is what every book that the checker stands for says, and the checker then stands for what that book holds after the call
+abbrev pub Serves : {R : Type 0} → (ℕ → Option Row) → Checker R → Call → Checker R → Result Answer Fault → Type 0
+Serves rows before c now a = (b : Book) → Stands before b → Says (rules_of rows before) b c a × Stands now (after (rules_of rows before) b c a) × Unchanged before now a
 
 -- the checker has completed the packet xs of the book, which is still to be judged
 pub record Complete {R : Type 0} (c : Checker R) (b : Book) (xs : List Instruction) : Type 0 where

@@ -6,6 +6,7 @@ use isa::repertoire::Repertoire;
 
 pub mod calls;
 
+// The states of the rules. The open instructions stay in place beside them.
 #[derive(Clone, Copy)]
 pub enum State {
     // no record is open

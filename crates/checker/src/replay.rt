@@ -2,7 +2,7 @@
 ghost use Rattle.std.specs.Prelude.{◌≡◌, ◌+◌, ◌≤◌, true, length, is_ok, IfOk, vec_len, vec_capacity, MatchResult, OnOk};
 ghost use Rattle.book.specs.Books.{Rules, Book, opened, opening};
 ghost use Rattle.decision.specs.Total.{SomeAnswer};
-ghost use Rattle.checker.specs.Stands.{rules_of, Stands};
+ghost use Rattle.checker.specs.Stands.{rules_of, rules_on, Stands};
 ghost use Rattle.checker.specs.Replays.{AnswersFrom, Performs, OnlyAnswers, NeverOverclaimed, RunsExist, OrderFree};
 
 use crate::checker::{Checker, Opened};
@@ -35,12 +35,12 @@ pub fn replay<R: Repertoire + Drop>(
     answers: &mut Vec<Result<Answer, Fault>>,
 ) -> Result<Option<Fault>, AllocError>
     ensures opening { IfOk result (λ o. o ≡ opening lawful) }
-    ensures answers_as_the_book { MatchResult result (λ _. AnswersFrom (record { rows = R.Repertoire.map repertoire; lawful = lawful }) (opened lawful) calls.now answers.old.items answers.new.items) (λ _. answers.new.items ≡ answers.old.items) }
-    ensures only_answers { OnOk result (OnlyAnswers (record { rows = R.Repertoire.map repertoire; lawful = lawful }) calls.now answers.old.items answers.new.items) }
+    ensures answers_as_the_book { MatchResult result (λ _. AnswersFrom (rules_on (R.Repertoire.map repertoire) lawful) (opened lawful) calls.now answers.old.items answers.new.items) (λ _. answers.new.items ≡ answers.old.items) }
+    ensures only_answers { OnOk result (OnlyAnswers (rules_on (R.Repertoire.map repertoire) lawful) calls.now answers.old.items answers.new.items) }
     ensures some_answer { SomeAnswer }
-    ensures never_overclaimed { OnOk result (NeverOverclaimed (record { rows = R.Repertoire.map repertoire; lawful = lawful }) calls.now answers.old.items answers.new.items) }
+    ensures never_overclaimed { OnOk result (NeverOverclaimed (rules_on (R.Repertoire.map repertoire) lawful) calls.now answers.old.items answers.new.items) }
     ensures runs_exist { RunsExist lawful }
-    ensures slot_order_free { OnOk result (OrderFree (record { rows = R.Repertoire.map repertoire; lawful = lawful }) calls.now answers.old.items answers.new.items) }
+    ensures slot_order_free { OnOk result (OrderFree (rules_on (R.Repertoire.map repertoire) lawful) calls.now answers.old.items answers.new.items) }
     ensures succeeds { vec_len answers.old + length calls.now ≤ vec_capacity answers.old → is_ok result ≡ true }
 {
     answers.reserve(calls.len())?;

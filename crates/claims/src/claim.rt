@@ -32,7 +32,7 @@ fn first_with<C: Claim>(claims: &[C], claim: &C) -> Option<usize>
 pub fn first_clash<C: Claim>(claims: &[C], from: usize) -> Option<Clash>
     ensures cases { MatchOption result (FreeFrom C.clash claims.now from (length claims.now)) (λ p. FirstClash C.clash claims.now from p.earlier p.later) }
 {
-    // by places, since they are the answer, and nothing is known of those that a `find_map` passes over
+    // by places, since they are the answer; no lemma of the library tells of `find_map` over a range
     for later in from..claims.len() {
         if let Some(earlier) = first_with(&claims[..later], &claims[later]) {
             return Some(Clash { earlier, later });

@@ -10,7 +10,7 @@ use admission::instruction::Instruction;
 use isa::class::Class;
 use std::marker::PhantomData;
 
-// What the instructions of a packet can get into each other's way at.
+// A kind of clash between two instructions of a packet.
 pub trait Kind {
     // When two instructions clash.
     ghost meeting: { Instruction → Instruction → Type 0 };
@@ -31,7 +31,7 @@ pub struct InstructionClaim<K> {
 
 impl<K: Kind> InstructionClaim<K> {
     pub fn new(instruction: Instruction) -> InstructionClaim<K>
-        ensures value { result.instruction ≡ instruction }
+        ensures value { result ≡ record { instruction = instruction; kind = record {} } }
     {
         InstructionClaim {
             instruction,

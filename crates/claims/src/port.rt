@@ -50,7 +50,7 @@ impl PortClaim {
     {
         PortClaim {
             side: port_side(instruction.unit),
-            landing: u64::from(issue) + u64::from(instruction.row.class.delay()),
+            landing: instruction.result_cycle(issue),
             result: port_result(instruction.row),
         }
     }

@@ -1,5 +1,5 @@
 -- The verdict on a packet: the fault it is refused with and its places, or when it issues, how long it takes and whether it stalls.
-use Rattle.std.specs.Prelude.{◌≡◌, ℕ, ◌+◌, ◌<◌, ◌⊎◌, List, length, take, Decides, Result, MatchResult}
+use Rattle.std.specs.Prelude.{◌≡◌, ℕ, ◌+◌, ◌<◌, ◌⊎◌, List, length, take, ◌↔◌, IsTrue, Result, MatchResult}
 use Rattle.isa.specs.Refusals.{number}
 use Rattle.admission.specs.declared.instruction.Instruction.{Instruction}
 use Rattle.admission.specs.Refusals.{Least}
@@ -38,7 +38,7 @@ pub record AcceptedAs (lawful start : Valuations) (past : List (List Instruction
   pub sound : (n : ℕ) → Breaks lawful start past xs n → ⊥
   pub issue : a.issue ≡ cycles past
   pub lasts : a.length ≡ packet_length xs
-  pub stall : Decides a.stall (Stalls past xs)
+  pub stall : IsTrue a.stall ↔ Stalls past xs
 
 -- the verdict on the packet xs behind past
 abbrev pub Judged : Valuations → Valuations → List (List Instruction) → List Instruction → Result Accepted Fault → Type 0

@@ -1,6 +1,6 @@
 // The condition registers that may change while packets issue.
 ghost use Rattle.std.specs.Prelude.{◌≡◌, ℕ, ◌<◌, ◌↔◌};
-ghost use Rattle.runs.specs.Valuations.{MayChange};
+ghost use Rattle.runs.specs.Valuations.{ChangesJust};
 ghost use Rattle.flight.specs.Issues.{FreedBy, Frees, SomeFrees};
 
 use crate::issued::{InFlight, Issued};
@@ -10,7 +10,7 @@ use std::ops::Range;
 
 // What one write frees, if it lands in one of the cycles.
 fn freed_by(write: Option<Write>, issue: u32, cycles: &Range<u64>) -> Changes
-    ensures members { (i : ℕ) → i < 6 → MayChange result i ↔ FreedBy issue cycles.now.start cycles.now.end i write }
+    ensures members { ChangesJust result (λ i. FreedBy issue cycles.now.start cycles.now.end i write) }
 {
     let Some(write) = write else {
         return Changes::NONE;
@@ -24,7 +24,7 @@ fn freed_by(write: Option<Write>, issue: u32, cycles: &Range<u64>) -> Changes
 
 // What one instruction's writes free.
 fn freed(issued: Issued, cycles: &Range<u64>) -> Changes
-    ensures members { (i : ℕ) → i < 6 → MayChange result i ↔ Frees cycles.now.start cycles.now.end i issued }
+    ensures members { ChangesJust result (λ i. Frees cycles.now.start cycles.now.end i issued) }
 {
     let mut freed = Changes::NONE;
     for write in issued.instruction.writes() {
@@ -35,7 +35,7 @@ fn freed(issued: Issued, cycles: &Range<u64>) -> Changes
 
 // The condition registers of which a write lands in one of the cycles.
 pub(crate) fn changes(entries: &[InFlight], cycles: &Range<u64>) -> Changes
-    ensures members { (i : ℕ) → i < 6 → MayChange result i ↔ SomeFrees cycles.now.start cycles.now.end i entries.now }
+    ensures members { ChangesJust result (λ i. SomeFrees cycles.now.start cycles.now.end i entries.now) }
 {
     let mut changes = Changes::NONE;
     for entry in entries {

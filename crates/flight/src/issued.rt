@@ -55,5 +55,5 @@ pub const UNUSED: InFlight = InFlight {
         issue: 0,
         instruction: IDLE,
     },
-    performed: Valuations { bits: 0 },
+    performed: Valuations::NONE,
 };

@@ -3,7 +3,7 @@ ghost use Rattle.std.specs.Prelude.{◌≡◌, ℕ, ◌<◌, ◌≤◌, List, []
 ghost use Rattle.std.specs.List.{AllByRecursion};
 ghost use Rattle.admission.specs.declared.instruction.Instruction.{Instruction};
 ghost use Rattle.runs.specs.declared.valuations.Valuations.{Valuations};
-ghost use Rattle.runs.specs.Valuations.{MayChange};
+ghost use Rattle.runs.specs.Valuations.{ChangesJust};
 ghost use Rattle.constraints.specs.Schedules.{May};
 ghost use Rattle.flight.specs.Issues.{live, kept};
 ghost use Rattle.flight.specs.Kept.{Performed};
@@ -16,14 +16,13 @@ use runs::valuations::{Changes, Valuations};
 fn lives(issued: Issued, cycle: u32) -> bool
     ensures value { result ≡ live cycle issued }
 {
-    let landing = u64::from(issued.issue) + u64::from(issued.instruction.row.class.delay());
-    u64::from(cycle) <= landing + 1
+    u64::from(cycle) <= issued.instruction.result_cycle(issued.issue) + 1
 }
 
 // The entry one packet on.
 fn stepped(entry: InFlight, lawful: Valuations, changes: Changes) -> InFlight
     ensures issued { result.issued ≡ «entry».issued }
-    ensures performed { (start : Valuations) (past : List (List Instruction)) (xs : List Instruction) → ((i : ℕ) → i < 6 → MayChange changes i ↔ May (past ++ xs ∷ []) (length past) i) → «entry».issued.place.packet ≤ length past → Performed lawful start past «entry» → Performed lawful start (past ++ xs ∷ []) result }
+    ensures performed { (start : Valuations) (past : List (List Instruction)) (xs : List Instruction) → ChangesJust changes (May (past ++ xs ∷ []) (length past)) → «entry».issued.place.packet ≤ length past → Performed lawful start past «entry» → Performed lawful start (past ++ xs ∷ []) result }
 {
     InFlight {
         issued: entry.issued,
@@ -39,7 +38,7 @@ pub(crate) fn onward(
     changes: Changes,
 ) -> Bounded<InFlight, 40>
     ensures issued { map (λ e. e.issued) result ≡ take 40 (kept cycle (map (λ e. e.issued) entries.now)) }
-    ensures performed { (start : Valuations) (past : List (List Instruction)) (xs : List Instruction) → ((i : ℕ) → i < 6 → MayChange changes i ↔ May (past ++ xs ∷ []) (length past) i) → AllByRecursion (λ e. e.issued.place.packet ≤ length past) entries.now → AllByRecursion (Performed lawful start past) entries.now → AllByRecursion (Performed lawful start (past ++ xs ∷ [])) result }
+    ensures performed { (start : Valuations) (past : List (List Instruction)) (xs : List Instruction) → ChangesJust changes (May (past ++ xs ∷ []) (length past)) → AllByRecursion (λ e. e.issued.place.packet ≤ length past) entries.now → AllByRecursion (Performed lawful start past) entries.now → AllByRecursion (Performed lawful start (past ++ xs ∷ [])) result }
 {
     let mut list = Bounded::new(UNUSED);
     for entry in entries {

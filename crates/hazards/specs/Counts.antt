@@ -37,7 +37,7 @@ mentions r i = count_by (λ q. nat_eq q.number r.number) (reads i)
 abbrev pub ReadExcess : List Instruction → Type 0
 ReadExcess xs = (r : Register) × (4 < sum_by (mentions r) xs)
 
--- the register of a place is
+-- the register of a place is read more than four times
 abbrev pub ExcessAt : List Instruction → Option Register → Type 0
 ExcessAt xs None = ⊥
 ExcessAt xs (Some r) = 4 < sum_by (mentions r) xs

@@ -1,7 +1,7 @@
 // The two sides of the data path, and the four functional units of each.
 ghost use Rattle.std.specs.Prelude.{◌≡◌};
 ghost use Rattle.std.specs.Option.{ok_or};
-ghost use Rattle.isa.specs.Units.{opposite, place, unit_of, permitted, permitted_kind, some_unit, other_than_d};
+ghost use Rattle.isa.specs.Units.{opposite, place, unit_of, permitted, permitted_kind, some_unit, other_than_d, unit_side};
 
 use crate::unknown::UnknownByte;
 
@@ -32,6 +32,13 @@ pub struct Units {
 }
 
 impl Side {
+    // The side of a unit's number.
+    pub fn of_unit(unit: u8) -> Side
+        ensures value { result ≡ unit_side unit }
+    {
+        if unit < 5 { Side::A } else { Side::B }
+    }
+
     pub fn opposite(self) -> Side
         ensures value { result ≡ opposite self }
     {
@@ -56,8 +63,10 @@ impl TryFrom<u8> for FunctionalUnit {
             4 | 8 => UnitKind::D,
             _ => return Err(UnknownByte(byte)),
         };
-        let side = if byte < 5 { Side::A } else { Side::B };
-        Ok(FunctionalUnit { kind, side })
+        Ok(FunctionalUnit {
+            kind,
+            side: Side::of_unit(byte),
+        })
     }
 }
 

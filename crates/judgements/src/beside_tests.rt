@@ -1,7 +1,6 @@
 // Two instructions of a packet that clash, and the nearest two that do not: 11 to 15.
 use crate::records::*;
-use crate::schedule::Outcome::{Accepted, Refused};
-use crate::schedule::{ALL, check_all};
+use crate::schedule::{ALL, accepted, check_all, refused};
 use std::test::Fail;
 
 // One unit twice. A NOP has none, and the other side's unit is another.
@@ -17,23 +16,23 @@ fn units(rt: HostRuntime) -> Result<(), Fail> {
         &rt,
         ALL,
         &[
-            (&[p(add), sub], Refused(11, (0, 1), (0, 0))),
-            (&[add, sub], Accepted(2, 2, 0)),
-            (&[p(add), other], Accepted(1, 1, 0)),
-            (&[p(nop(1)), nop(1)], Accepted(1, 1, 0)),
+            (&[p(add), sub], refused(11, (0, 1), (0, 0))),
+            (&[add, sub], accepted(2, 2, 0)),
+            (&[p(add), other], accepted(1, 1, 0)),
+            (&[p(nop(1)), nop(1)], accepted(1, 1, 0)),
             (
                 &[p(left), p(add), p(sub), left],
-                Refused(11, (0, 2), (0, 1)),
+                refused(11, (0, 2), (0, 1)),
             ),
             (
                 &[p(add), p(left), p(other), sub],
-                Refused(11, (0, 3), (0, 0)),
+                refused(11, (0, 3), (0, 0)),
             ),
             (
                 &[add, nop(3), p(left), p(add), sub],
-                Refused(11, (2, 2), (2, 1)),
+                refused(11, (2, 2), (2, 1)),
             ),
-            (&[p(mpy), average], Refused(11, (0, 1), (0, 0))),
+            (&[p(mpy), average], refused(11, (0, 1), (0, 0))),
         ],
     )
 }
@@ -46,14 +45,14 @@ fn long_nops(rt: HostRuntime) -> Result<(), Fail> {
         &rt,
         ALL,
         &[
-            (&[p(nop(2)), nop(3)], Refused(12, (0, 1), (0, 0))),
-            (&[p(nop(4)), nop(4)], Refused(12, (0, 1), (0, 0))),
-            (&[p(nop(1)), nop(3)], Accepted(1, 3, 0)),
-            (&[p(nop(9)), nop(1)], Accepted(1, 9, 0)),
-            (&[nop(2), nop(3)], Accepted(2, 5, 0)),
+            (&[p(nop(2)), nop(3)], refused(12, (0, 1), (0, 0))),
+            (&[p(nop(4)), nop(4)], refused(12, (0, 1), (0, 0))),
+            (&[p(nop(1)), nop(3)], accepted(1, 3, 0)),
+            (&[p(nop(9)), nop(1)], accepted(1, 9, 0)),
+            (&[nop(2), nop(3)], accepted(2, 5, 0)),
             (
                 &[p(add), p(nop(2)), p(nop(1)), nop(2)],
-                Refused(12, (0, 3), (0, 1)),
+                refused(12, (0, 3), (0, 1)),
             ),
         ],
     )
@@ -72,14 +71,14 @@ fn data_paths(rt: HostRuntime) -> Result<(), Fail> {
         &rt,
         ALL,
         &[
-            (&[p(load), store], Refused(13, (0, 1), (0, 0))),
-            (&[p(load), store_t2], Accepted(1, 1, 0)),
-            (&[p(load_t2), store_t2], Refused(13, (0, 1), (0, 0))),
-            (&[p(load_t2), store], Accepted(1, 1, 0)),
-            (&[p(load), add], Accepted(1, 1, 0)),
+            (&[p(load), store], refused(13, (0, 1), (0, 0))),
+            (&[p(load), store_t2], accepted(1, 1, 0)),
+            (&[p(load_t2), store_t2], refused(13, (0, 1), (0, 0))),
+            (&[p(load_t2), store], accepted(1, 1, 0)),
+            (&[p(load), add], accepted(1, 1, 0)),
             (
                 &[p(left), p(store_t2), load_t2],
-                Refused(13, (0, 2), (0, 1)),
+                refused(13, (0, 2), (0, 1)),
             ),
         ],
     )
@@ -98,13 +97,13 @@ fn alignment(rt: HostRuntime) -> Result<(), Fail> {
         &rt,
         ALL,
         &[
-            (&[p(nonaligned), load], Refused(14, (0, 1), (0, 0))),
-            (&[p(load), nonaligned], Refused(14, (0, 1), (0, 0))),
-            (&[p(store), nonaligned], Refused(14, (0, 1), (0, 0))),
-            (&[p(store), p(nop(1)), aligned], Refused(14, (0, 2), (0, 0))),
-            (&[p(load), aligned], Accepted(1, 1, 0)),
-            (&[p(add), nonaligned], Accepted(1, 1, 0)),
-            (&[p(load), one_path], Refused(13, (0, 1), (0, 0))),
+            (&[p(nonaligned), load], refused(14, (0, 1), (0, 0))),
+            (&[p(load), nonaligned], refused(14, (0, 1), (0, 0))),
+            (&[p(store), nonaligned], refused(14, (0, 1), (0, 0))),
+            (&[p(store), p(nop(1)), aligned], refused(14, (0, 2), (0, 0))),
+            (&[p(load), aligned], accepted(1, 1, 0)),
+            (&[p(add), nonaligned], accepted(1, 1, 0)),
+            (&[p(load), one_path], refused(13, (0, 1), (0, 0))),
         ],
     )
 }
@@ -122,13 +121,13 @@ fn cross_path_operands(rt: HostRuntime) -> Result<(), Fail> {
         &rt,
         ALL,
         &[
-            (&[p(add), sub], Refused(15, (0, 1), (0, 0))),
-            (&[add, sub], Accepted(2, 2, 0)),
-            (&[p(add), same], Accepted(1, 1, 0)),
-            (&[p(add), plain], Accepted(1, 1, 0)),
-            (&[p(add), opposite], Accepted(1, 1, 0)),
-            (&[p(opposite), p(add), sub], Refused(15, (0, 2), (0, 1))),
-            (&[p(add), p(same), mpy], Refused(15, (0, 2), (0, 0))),
+            (&[p(add), sub], refused(15, (0, 1), (0, 0))),
+            (&[add, sub], accepted(2, 2, 0)),
+            (&[p(add), same], accepted(1, 1, 0)),
+            (&[p(add), plain], accepted(1, 1, 0)),
+            (&[p(add), opposite], accepted(1, 1, 0)),
+            (&[p(opposite), p(add), sub], refused(15, (0, 2), (0, 1))),
+            (&[p(add), p(same), mpy], refused(15, (0, 2), (0, 0))),
         ],
     )
 }

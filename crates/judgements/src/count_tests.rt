@@ -1,7 +1,6 @@
 // The two counts of a packet at their limits: 16 and 17. Both places are the slot that passes the limit.
 use crate::records::*;
-use crate::schedule::Outcome::{Accepted, Refused};
-use crate::schedule::{ALL, check_all};
+use crate::schedule::{ALL, accepted, check_all, refused};
 use std::test::Fail;
 
 // Two uses of a side's cross path are allowed, the third is not. The sides count apart.
@@ -18,17 +17,17 @@ fn cross_path_uses(rt: HostRuntime) -> Result<(), Fail> {
         &rt,
         ALL,
         &[
-            (&[p(l2), s2], Accepted(1, 1, 0)),
-            (&[p(l2), p(s2), d2], Refused(16, (0, 2), (0, 2))),
-            (&[p(l2), p(s2), plain], Accepted(1, 1, 0)),
-            (&[p(l2), p(plain), p(s2), l1], Accepted(1, 1, 0)),
-            (&[p(l2), p(l1), p(s2), s1], Accepted(1, 1, 0)),
+            (&[p(l2), s2], accepted(1, 1, 0)),
+            (&[p(l2), p(s2), d2], refused(16, (0, 2), (0, 2))),
+            (&[p(l2), p(s2), plain], accepted(1, 1, 0)),
+            (&[p(l2), p(plain), p(s2), l1], accepted(1, 1, 0)),
+            (&[p(l2), p(l1), p(s2), s1], accepted(1, 1, 0)),
             (
                 &[p(l2), p(l1), p(s2), p(s1), m1],
-                Refused(16, (0, 4), (0, 4)),
+                refused(16, (0, 4), (0, 4)),
             ),
-            (&[p(l1), p(s1), p(m1), plain], Refused(16, (0, 2), (0, 2))),
-            (&[p(l2), s2, d2], Accepted(2, 2, 0)),
+            (&[p(l1), p(s1), p(m1), plain], refused(16, (0, 2), (0, 2))),
+            (&[p(l2), s2, d2], accepted(2, 2, 0)),
         ],
     )
 }
@@ -46,16 +45,16 @@ fn reads(rt: HostRuntime) -> Result<(), Fail> {
         &rt,
         ALL,
         &[
-            (&[p(mpy), add], Accepted(1, 1, 0)),
-            (&[p(mpy), p(add), sub], Refused(17, (0, 2), (0, 2))),
-            (&[p(mpy), p(once), sub], Accepted(1, 1, 0)),
-            (&[p(mpy), p(constant), sub], Accepted(1, 1, 0)),
+            (&[p(mpy), add], accepted(1, 1, 0)),
+            (&[p(mpy), p(add), sub], refused(17, (0, 2), (0, 2))),
+            (&[p(mpy), p(once), sub], accepted(1, 1, 0)),
+            (&[p(mpy), p(constant), sub], accepted(1, 1, 0)),
             (
                 &[p(sub), p(cross), p(mpy), constant],
-                Refused(17, (0, 3), (0, 3)),
+                refused(17, (0, 3), (0, 3)),
             ),
-            (&[p(mpy), p(add), cross], Refused(17, (0, 2), (0, 2))),
-            (&[mpy, p(add), sub], Accepted(2, 2, 0)),
+            (&[p(mpy), p(add), cross], refused(17, (0, 2), (0, 2))),
+            (&[mpy, p(add), sub], accepted(2, 2, 0)),
         ],
     )
 }
@@ -76,14 +75,14 @@ fn reads_of_memory(rt: HostRuntime) -> Result<(), Fail> {
         &rt,
         ALL,
         &[
-            (&[p(add), p(sub), store], Refused(17, (0, 2), (0, 2))),
-            (&[p(add), p(once), store], Accepted(1, 1, 0)),
-            (&[p(add), p(sub), load], Accepted(1, 1, 0)),
-            (&[p(add), p(sub), odd], Refused(17, (0, 2), (0, 2))),
-            (&[p(add), p(once), odd], Accepted(1, 1, 0)),
-            (&[p(add), p(sub), next], Accepted(1, 1, 0)),
-            (&[p(add), p(once), base], Accepted(1, 1, 0)),
-            (&[p(add), p(once), offset], Refused(17, (0, 2), (0, 2))),
+            (&[p(add), p(sub), store], refused(17, (0, 2), (0, 2))),
+            (&[p(add), p(once), store], accepted(1, 1, 0)),
+            (&[p(add), p(sub), load], accepted(1, 1, 0)),
+            (&[p(add), p(sub), odd], refused(17, (0, 2), (0, 2))),
+            (&[p(add), p(once), odd], accepted(1, 1, 0)),
+            (&[p(add), p(sub), next], accepted(1, 1, 0)),
+            (&[p(add), p(once), base], accepted(1, 1, 0)),
+            (&[p(add), p(once), offset], refused(17, (0, 2), (0, 2))),
         ],
     )
 }
@@ -99,9 +98,9 @@ fn reads_of_the_even_half(rt: HostRuntime) -> Result<(), Fail> {
         &rt,
         ALL,
         &[
-            (&[p(add), p(sub), even], Refused(17, (0, 2), (0, 2))),
-            (&[p(even), p(add), sub], Refused(17, (0, 2), (0, 2))),
-            (&[p(add), p(once), even], Accepted(1, 1, 0)),
+            (&[p(add), p(sub), even], refused(17, (0, 2), (0, 2))),
+            (&[p(even), p(add), sub], refused(17, (0, 2), (0, 2))),
+            (&[p(add), p(once), even], accepted(1, 1, 0)),
         ],
     )
 }

@@ -1,7 +1,6 @@
 // Which number is told of a packet that breaks several, and which partner of an instruction that has several.
 use crate::records::*;
-use crate::schedule::Outcome::{Accepted, Refused};
-use crate::schedule::{ALL, check_all};
+use crate::schedule::{ALL, accepted, check_all, refused};
 use std::test::Fail;
 
 // Slot 3 brings the reads of A1 to five, slot 5 repeats a unit: the least number counts, with its own places.
@@ -18,11 +17,11 @@ fn units_before_reads(rt: HostRuntime) -> Result<(), Fail> {
         &[
             (
                 &[p(mpy), p(add), p(l2), p(sub), d2],
-                Refused(17, (0, 3), (0, 3)),
+                refused(17, (0, 3), (0, 3)),
             ),
             (
                 &[p(mpy), p(add), p(l2), p(sub), p(d2), l2],
-                Refused(11, (0, 5), (0, 2)),
+                refused(11, (0, 5), (0, 2)),
             ),
         ],
     )
@@ -43,19 +42,19 @@ fn later_slot_less_number(rt: HostRuntime) -> Result<(), Fail> {
         &[
             (
                 &[p(load), p(store), p(nop(2)), nop(1)],
-                Refused(13, (0, 1), (0, 0)),
+                refused(13, (0, 1), (0, 0)),
             ),
             (
                 &[p(load), p(store), p(nop(2)), nop(3)],
-                Refused(12, (0, 3), (0, 2)),
+                refused(12, (0, 3), (0, 2)),
             ),
             (
                 &[p(add), p(sub), p(load), store_t2],
-                Refused(15, (0, 1), (0, 0)),
+                refused(15, (0, 1), (0, 0)),
             ),
             (
                 &[p(add), p(sub), p(nonaligned), store_t2],
-                Refused(14, (0, 3), (0, 2)),
+                refused(14, (0, 3), (0, 2)),
             ),
         ],
     )
@@ -73,10 +72,10 @@ fn uses_before_reads(rt: HostRuntime) -> Result<(), Fail> {
         &rt,
         ALL,
         &[
-            (&[p(add), p(sub), p(l2), s2], Refused(17, (0, 2), (0, 2))),
+            (&[p(add), p(sub), p(l2), s2], refused(17, (0, 2), (0, 2))),
             (
                 &[p(add), p(sub), p(l2), p(s2), d2],
-                Refused(16, (0, 4), (0, 4)),
+                refused(16, (0, 4), (0, 4)),
             ),
         ],
     )
@@ -95,18 +94,18 @@ fn reads_before_ports_before_writes(rt: HostRuntime) -> Result<(), Fail> {
         &rt,
         ALL,
         &[
-            (&[pair, nop(1), p(mpy), reads], Refused(18, (2, 0), (0, 0))),
+            (&[pair, nop(1), p(mpy), reads], refused(18, (2, 0), (0, 0))),
             (
                 &[pair, nop(1), p(mpy), p(reads), sub],
-                Refused(17, (2, 2), (2, 2)),
+                refused(17, (2, 2), (2, 2)),
             ),
             (
                 &[pair, nop(1), p(first), second],
-                Refused(19, (2, 1), (2, 0)),
+                refused(19, (2, 1), (2, 0)),
             ),
             (
                 &[pair, nop(1), p(first), p(second), mpy],
-                Refused(18, (2, 2), (0, 0)),
+                refused(18, (2, 2), (0, 0)),
             ),
         ],
     )
@@ -123,19 +122,19 @@ fn first_partner_of_an_update(rt: HostRuntime) -> Result<(), Fail> {
         &rt,
         ALL,
         &[
-            (&[mpy, add], Accepted(2, 2, 0)),
-            (&[mpy, p(add), load], Refused(19, (1, 1), (0, 0))),
-            (&[mpy, p(load), add], Refused(19, (1, 0), (0, 0))),
+            (&[mpy, add], accepted(2, 2, 0)),
+            (&[mpy, p(add), load], refused(19, (1, 1), (0, 0))),
+            (&[mpy, p(load), add], refused(19, (1, 0), (0, 0))),
             (
                 &[mpy, p(add), when(IF_B0, load)],
-                Refused(19, (1, 1), (0, 0)),
+                refused(19, (1, 1), (0, 0)),
             ),
             (
                 &[mpy, p(add), when(UNLESS_B0, load)],
-                Refused(19, (1, 1), (1, 0)),
+                refused(19, (1, 1), (1, 0)),
             ),
-            (&[p(data), p(load), add], Refused(19, (0, 2), (0, 1))),
-            (&[p(add), p(data), load], Refused(19, (0, 2), (0, 0))),
+            (&[p(data), p(load), add], refused(19, (0, 2), (0, 1))),
+            (&[p(add), p(data), load], refused(19, (0, 2), (0, 0))),
         ],
     )
 }
@@ -152,10 +151,10 @@ fn first_partner_by_packet(rt: HostRuntime) -> Result<(), Fail> {
         &rt,
         ALL,
         &[
-            (&[p(load), nop(3), mpy, nop(1), add], Accepted(4, 6, 0)),
-            (&[p(load), nop(3), mpy, add], Refused(19, (2, 0), (0, 0))),
-            (&[p(load), nop(3), mpy, given], Refused(19, (2, 0), (0, 0))),
-            (&[p(load), nop(3), mpy, other], Refused(19, (2, 0), (1, 0))),
+            (&[p(load), nop(3), mpy, nop(1), add], accepted(4, 6, 0)),
+            (&[p(load), nop(3), mpy, add], refused(19, (2, 0), (0, 0))),
+            (&[p(load), nop(3), mpy, given], refused(19, (2, 0), (0, 0))),
+            (&[p(load), nop(3), mpy, other], refused(19, (2, 0), (1, 0))),
         ],
     )
 }

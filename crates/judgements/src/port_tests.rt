@@ -1,7 +1,6 @@
 // Results of one .M unit that land together: 18. DOTP2 and SMPY2 land after three cycles, SMPY2 as a pair; MPY and AVG2 after one.
 use crate::records::*;
-use crate::schedule::Outcome::{Accepted, Refused};
-use crate::schedule::{ALL, check_all};
+use crate::schedule::{ALL, accepted, check_all, refused};
 use std::test::Fail;
 
 // Two cycles apart they land together. A pair shares the cycle with nothing, DOTP2 with a two cycle result.
@@ -16,14 +15,14 @@ fn landing_together(rt: HostRuntime) -> Result<(), Fail> {
         &rt,
         ALL,
         &[
-            (&[single, nop(1), mpy], Accepted(3, 3, 0)),
-            (&[single, nop(1), average], Accepted(3, 3, 0)),
-            (&[pair, nop(1), mpy], Refused(18, (2, 0), (0, 0))),
-            (&[pair, nop(1), average], Refused(18, (2, 0), (0, 0))),
-            (&[pair, nop(1), far], Accepted(3, 3, 0)),
-            (&[pair, mpy], Accepted(2, 2, 0)),
-            (&[pair, nop(1), nop(1), mpy], Accepted(4, 4, 0)),
-            (&[p(pair), far], Accepted(1, 1, 0)),
+            (&[single, nop(1), mpy], accepted(3, 3, 0)),
+            (&[single, nop(1), average], accepted(3, 3, 0)),
+            (&[pair, nop(1), mpy], refused(18, (2, 0), (0, 0))),
+            (&[pair, nop(1), average], refused(18, (2, 0), (0, 0))),
+            (&[pair, nop(1), far], accepted(3, 3, 0)),
+            (&[pair, mpy], accepted(2, 2, 0)),
+            (&[pair, nop(1), nop(1), mpy], accepted(4, 4, 0)),
+            (&[p(pair), far], accepted(1, 1, 0)),
         ],
     )
 }
@@ -38,14 +37,14 @@ fn never_together(rt: HostRuntime) -> Result<(), Fail> {
         &rt,
         ALL,
         &[
-            (&[mpy, pair], Accepted(2, 2, 0)),
-            (&[mpy, nop(1), pair], Accepted(3, 3, 0)),
-            (&[mpy, nop(1), single], Accepted(3, 3, 0)),
-            (&[single, pair], Accepted(2, 2, 0)),
-            (&[pair, single], Accepted(2, 2, 0)),
-            (&[pair, pair], Accepted(2, 2, 0)),
-            (&[mpy, mpy], Accepted(2, 2, 0)),
-            (&[p(single), pair], Refused(11, (0, 1), (0, 0))),
+            (&[mpy, pair], accepted(2, 2, 0)),
+            (&[mpy, nop(1), pair], accepted(3, 3, 0)),
+            (&[mpy, nop(1), single], accepted(3, 3, 0)),
+            (&[single, pair], accepted(2, 2, 0)),
+            (&[pair, single], accepted(2, 2, 0)),
+            (&[pair, pair], accepted(2, 2, 0)),
+            (&[mpy, mpy], accepted(2, 2, 0)),
+            (&[p(single), pair], refused(11, (0, 1), (0, 0))),
         ],
     )
 }
@@ -63,13 +62,13 @@ fn several_in_flight(rt: HostRuntime) -> Result<(), Fail> {
         &rt,
         ALL,
         &[
-            (&[pair, single, mpy], Refused(18, (2, 0), (0, 0))),
-            (&[single, pair, mpy], Accepted(3, 3, 0)),
-            (&[single, pair, mpy, average], Refused(18, (3, 0), (1, 0))),
-            (&[pair, single, add, average], Accepted(4, 4, 0)),
+            (&[pair, single, mpy], refused(18, (2, 0), (0, 0))),
+            (&[single, pair, mpy], accepted(3, 3, 0)),
+            (&[single, pair, mpy, average], refused(18, (3, 0), (1, 0))),
+            (&[pair, single, add, average], accepted(4, 4, 0)),
             (
                 &[p(add), pair, sub, p(sub), p(add), mpy],
-                Refused(18, (2, 2), (0, 1)),
+                refused(18, (2, 2), (0, 1)),
             ),
         ],
     )
@@ -85,12 +84,12 @@ fn across_long_nops(rt: HostRuntime) -> Result<(), Fail> {
         &rt,
         ALL,
         &[
-            (&[p(pair), nop(1), mpy], Accepted(2, 2, 0)),
-            (&[p(pair), nop(2), mpy], Refused(18, (1, 0), (0, 0))),
-            (&[p(pair), nop(3), mpy], Accepted(2, 4, 0)),
-            (&[p(single), nop(2), mpy], Accepted(2, 3, 0)),
-            (&[pair, nop(2), mpy], Accepted(3, 4, 0)),
-            (&[pair, nop(3), mpy], Accepted(3, 5, 0)),
+            (&[p(pair), nop(1), mpy], accepted(2, 2, 0)),
+            (&[p(pair), nop(2), mpy], refused(18, (1, 0), (0, 0))),
+            (&[p(pair), nop(3), mpy], accepted(2, 4, 0)),
+            (&[p(single), nop(2), mpy], accepted(2, 3, 0)),
+            (&[pair, nop(2), mpy], accepted(3, 4, 0)),
+            (&[pair, nop(3), mpy], accepted(3, 5, 0)),
         ],
     )
 }
@@ -106,10 +105,10 @@ fn beside_the_writes(rt: HostRuntime) -> Result<(), Fail> {
         &rt,
         ALL,
         &[
-            (&[pair, nop(1), other], Refused(18, (2, 0), (0, 0))),
-            (&[pair, nop(1), mpy], Refused(18, (2, 0), (0, 0))),
-            (&[single, nop(1), mpy], Refused(19, (2, 0), (0, 0))),
-            (&[single, nop(1), other], Accepted(3, 3, 0)),
+            (&[pair, nop(1), other], refused(18, (2, 0), (0, 0))),
+            (&[pair, nop(1), mpy], refused(18, (2, 0), (0, 0))),
+            (&[single, nop(1), mpy], refused(19, (2, 0), (0, 0))),
+            (&[single, nop(1), other], accepted(3, 3, 0)),
         ],
     )
 }

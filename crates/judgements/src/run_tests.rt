@@ -1,7 +1,6 @@
 // Writes under conditions: 19 is told exactly where some run performs both.
 use crate::records::*;
-use crate::schedule::Outcome::{Accepted, Refused};
-use crate::schedule::{ALL, check_all};
+use crate::schedule::{ALL, accepted, check_all, refused};
 use std::test::Fail;
 
 // Lawful sets by B0, bit 0 of a valuation, and B1, bit 1.
@@ -28,18 +27,18 @@ fn a_flag_between(rt: HostRuntime) -> Result<(), Fail> {
         &rt,
         ALL,
         &[
-            (&[mpy, add], Accepted(2, 2, 0)),
-            (&[mpy, when(IF_B0, add)], Refused(19, (1, 0), (0, 0))),
-            (&[mpy, when(UNLESS_B1, add)], Refused(19, (1, 0), (0, 0))),
-            (&[p(mpy), flag, add], Refused(19, (1, 0), (0, 0))),
-            (&[p(flag), mpy, add], Refused(19, (1, 0), (0, 1))),
+            (&[mpy, add], accepted(2, 2, 0)),
+            (&[mpy, when(IF_B0, add)], refused(19, (1, 0), (0, 0))),
+            (&[mpy, when(UNLESS_B1, add)], refused(19, (1, 0), (0, 0))),
+            (&[p(mpy), flag, add], refused(19, (1, 0), (0, 0))),
+            (&[p(flag), mpy, add], refused(19, (1, 0), (0, 1))),
             (
                 &[p(mpy), when(UNLESS_B0, flag), add],
-                Refused(19, (1, 0), (0, 0)),
+                refused(19, (1, 0), (0, 0)),
             ),
-            (&[p(mpy), other, add], Accepted(2, 2, 0)),
-            (&[flag, mpy, add], Accepted(3, 3, 0)),
-            (&[mpy, p(add), flag], Accepted(2, 2, 0)),
+            (&[p(mpy), other, add], accepted(2, 2, 0)),
+            (&[flag, mpy, add], accepted(3, 3, 0)),
+            (&[mpy, p(add), flag], accepted(2, 2, 0)),
         ],
     )
 }
@@ -54,12 +53,12 @@ fn a_flag_that_lands_later(rt: HostRuntime) -> Result<(), Fail> {
         &rt,
         ALL,
         &[
-            (&[first, nop(2), last], Accepted(3, 4, 0)),
-            (&[p(first), flag, nop(2), last], Refused(19, (2, 0), (0, 0))),
-            (&[first, flag, nop(1), last], Refused(19, (3, 0), (0, 0))),
-            (&[first, nop(1), flag, last], Accepted(4, 4, 0)),
-            (&[flag, first, nop(2), last], Refused(19, (3, 0), (1, 0))),
-            (&[flag, nop(1), first, nop(2), last], Accepted(5, 6, 0)),
+            (&[first, nop(2), last], accepted(3, 4, 0)),
+            (&[p(first), flag, nop(2), last], refused(19, (2, 0), (0, 0))),
+            (&[first, flag, nop(1), last], refused(19, (3, 0), (0, 0))),
+            (&[first, nop(1), flag, last], accepted(4, 4, 0)),
+            (&[flag, first, nop(2), last], refused(19, (3, 0), (1, 0))),
+            (&[flag, nop(1), first, nop(2), last], accepted(5, 6, 0)),
         ],
     )
 }
@@ -74,11 +73,11 @@ fn a_flag_loaded(rt: HostRuntime) -> Result<(), Fail> {
         &rt,
         ALL,
         &[
-            (&[load, nop(2), mpy, add], Accepted(4, 5, 0)),
-            (&[load, nop(3), mpy, add], Refused(19, (3, 0), (2, 0))),
-            (&[load, nop(4), mpy, add], Accepted(4, 7, 0)),
-            (&[p(load), nop(3), mpy, add], Accepted(3, 5, 0)),
-            (&[p(load), nop(4), mpy, add], Refused(19, (2, 0), (1, 0))),
+            (&[load, nop(2), mpy, add], accepted(4, 5, 0)),
+            (&[load, nop(3), mpy, add], refused(19, (3, 0), (2, 0))),
+            (&[load, nop(4), mpy, add], accepted(4, 7, 0)),
+            (&[p(load), nop(3), mpy, add], accepted(3, 5, 0)),
+            (&[p(load), nop(4), mpy, add], refused(19, (2, 0), (1, 0))),
         ],
     )
 }
@@ -96,11 +95,11 @@ fn a_flag_updated(rt: HostRuntime) -> Result<(), Fail> {
         &rt,
         ALL,
         &[
-            (&[p(mpy), load, add], Refused(19, (1, 0), (0, 0))),
-            (&[p(mpy), store, add], Refused(19, (1, 0), (0, 0))),
-            (&[p(mpy), still, add], Accepted(2, 2, 0)),
-            (&[p(mpy), other, add], Accepted(2, 2, 0)),
-            (&[mpy, p(add), load], Accepted(2, 2, 0)),
+            (&[p(mpy), load, add], refused(19, (1, 0), (0, 0))),
+            (&[p(mpy), store, add], refused(19, (1, 0), (0, 0))),
+            (&[p(mpy), still, add], accepted(2, 2, 0)),
+            (&[p(mpy), other, add], accepted(2, 2, 0)),
+            (&[mpy, p(add), load], accepted(2, 2, 0)),
         ],
     )
 }
@@ -119,10 +118,10 @@ fn a_flag_in_a_pair(rt: HostRuntime) -> Result<(), Fail> {
         &rt,
         ALL,
         &[
-            (&[load, nop(3), mpy, add], Refused(19, (3, 0), (2, 0))),
-            (&[load, nop(3), mpy_a0, add_a0], Refused(19, (3, 0), (2, 0))),
-            (&[load, nop(3), mpy_a2, add_a2], Accepted(4, 6, 0)),
-            (&[load, nop(2), mpy, add], Accepted(4, 5, 0)),
+            (&[load, nop(3), mpy, add], refused(19, (3, 0), (2, 0))),
+            (&[load, nop(3), mpy_a0, add_a0], refused(19, (3, 0), (2, 0))),
+            (&[load, nop(3), mpy_a2, add_a2], accepted(4, 6, 0)),
+            (&[load, nop(2), mpy, add], accepted(4, 5, 0)),
         ],
     )
 }
@@ -138,16 +137,16 @@ fn a_flag_that_is_fixed(rt: HostRuntime) -> Result<(), Fail> {
         &rt,
         B0_SET,
         &[
-            (&[p(mpy), flag, add], Accepted(2, 2, 0)),
-            (&[mpy, always], Refused(19, (1, 0), (0, 0))),
+            (&[p(mpy), flag, add], accepted(2, 2, 0)),
+            (&[mpy, always], refused(19, (1, 0), (0, 0))),
         ],
     )?;
     check_all(
         &rt,
         B0_CLEAR,
         &[
-            (&[p(mpy), flag, add], Accepted(2, 2, 0)),
-            (&[mpy, always], Accepted(2, 2, 0)),
+            (&[p(mpy), flag, add], accepted(2, 2, 0)),
+            (&[mpy, always], accepted(2, 2, 0)),
         ],
     )
 }
@@ -157,12 +156,12 @@ fn a_flag_that_is_fixed(rt: HostRuntime) -> Result<(), Fail> {
 fn two_flags_in_a_packet(rt: HostRuntime) -> Result<(), Fail> {
     let add = [ADD, L2, 0, UNLESS_B1, B5, B6, B7, 0];
     let sub = [SUB, S2, 0, IF_B0, B8, B9, B7, 0];
-    let met = Refused(19, (0, 1), (0, 0));
+    let met = refused(19, (0, 1), (0, 0));
     check_all(&rt, ALL, &[(&[p(add), sub], met)])?;
-    check_all(&rt, NOT_1_MOD_4, &[(&[p(add), sub], Accepted(1, 1, 0))])?;
+    check_all(&rt, NOT_1_MOD_4, &[(&[p(add), sub], accepted(1, 1, 0))])?;
     check_all(&rt, NOT_1_MOD_4 | 1 << 61, &[(&[p(add), sub], met)])?;
     check_all(&rt, 1 << 1, &[(&[p(add), sub], met)])?;
-    check_all(&rt, 1 << 0, &[(&[p(add), sub], Accepted(1, 1, 0))])
+    check_all(&rt, 1 << 0, &[(&[p(add), sub], accepted(1, 1, 0))])
 }
 
 // The same in two packets: from neither set to both, where B0 alone is not lawful.
@@ -176,10 +175,10 @@ fn two_flags_in_two_packets(rt: HostRuntime) -> Result<(), Fail> {
         &rt,
         NOT_1_MOD_4,
         &[
-            (&[mpy, add], Accepted(2, 2, 0)),
-            (&[p(mpy), b0, add], Accepted(2, 2, 0)),
-            (&[p(mpy), b1, add], Accepted(2, 2, 0)),
-            (&[p(mpy), p(b0), b1, add], Refused(19, (1, 0), (0, 0))),
+            (&[mpy, add], accepted(2, 2, 0)),
+            (&[p(mpy), b0, add], accepted(2, 2, 0)),
+            (&[p(mpy), b1, add], accepted(2, 2, 0)),
+            (&[p(mpy), p(b0), b1, add], refused(19, (1, 0), (0, 0))),
         ],
     )
 }
@@ -196,21 +195,21 @@ fn a_path_of_one_step(rt: HostRuntime) -> Result<(), Fail> {
         &rt,
         JUST_ONE,
         &[
-            (&[p(mpy), b0, add], Accepted(2, 2, 0)),
-            (&[p(mpy), p(b0), b1, add], Refused(19, (1, 0), (0, 0))),
-            (&[p(product), b0, b1, nop(1), add], Accepted(4, 4, 0)),
-            (&[p(product), b1, b0, nop(1), add], Accepted(4, 4, 0)),
+            (&[p(mpy), b0, add], accepted(2, 2, 0)),
+            (&[p(mpy), p(b0), b1, add], refused(19, (1, 0), (0, 0))),
+            (&[p(product), b0, b1, nop(1), add], accepted(4, 4, 0)),
+            (&[p(product), b1, b0, nop(1), add], accepted(4, 4, 0)),
         ],
     )?;
     check_all(
         &rt,
         NOT_BOTH,
         &[
-            (&[p(mpy), b0, add], Refused(19, (1, 0), (0, 0))),
-            (&[p(mpy), b1, add], Accepted(2, 2, 0)),
+            (&[p(mpy), b0, add], refused(19, (1, 0), (0, 0))),
+            (&[p(mpy), b1, add], accepted(2, 2, 0)),
             (
                 &[p(product), b0, b1, nop(1), add],
-                Refused(19, (3, 0), (0, 0)),
+                refused(19, (3, 0), (0, 0)),
             ),
         ],
     )
@@ -227,16 +226,16 @@ fn a_path_of_two_steps(rt: HostRuntime) -> Result<(), Fail> {
         &rt,
         AT_LEAST_ONE,
         &[
-            (&[p(product), b0, b1, nop(1), add], Accepted(4, 4, 0)),
+            (&[p(product), b0, b1, nop(1), add], accepted(4, 4, 0)),
             (
                 &[p(product), b1, b0, nop(1), add],
-                Refused(19, (3, 0), (0, 0)),
+                refused(19, (3, 0), (0, 0)),
             ),
             (
                 &[p(product), b1, nop(1), b0, add],
-                Refused(19, (3, 0), (0, 0)),
+                refused(19, (3, 0), (0, 0)),
             ),
-            (&[p(product), b1, nop(2), p(add), b0], Accepted(3, 4, 0)),
+            (&[p(product), b1, nop(2), p(add), b0], accepted(3, 4, 0)),
         ],
     )
 }

@@ -6,7 +6,7 @@ use constraints::fault::Fault;
 use flight::history::History;
 use flight::issued::{Packet, UNUSED};
 use isa::built_in::BuiltIn;
-use isa::record::{Flags, Record};
+use isa::record::Record;
 use runs::valuations::Valuations;
 use std::process::Abort;
 use std::test::Fail;
@@ -15,17 +15,23 @@ use verdict::judge::judge;
 // The lawful set of all valuations.
 pub(crate) const ALL: u64 = u64::MAX;
 
-// What becomes of a schedule.
-#[derive(Clone, Copy, Debug, PartialEq, Eq)]
-pub(crate) enum Outcome {
-    // packets, cycles and stalls
-    Accepted(usize, u64, usize),
-    // the number, the later place and the earlier one, each by packet and slot
-    Refused(u8, (usize, usize), (usize, usize)),
+// A record by packet and slot.
+type Place = (usize, usize);
+
+// What becomes of a schedule: packets, cycles and stalls, or the number, the later place and the earlier one.
+pub(crate) type Outcome = Result<(usize, u64, usize), (u8, Place, Place)>;
+
+pub(crate) fn accepted(packets: usize, cycles: u64, stalls: usize) -> Outcome {
+    Ok((packets, cycles, stalls))
 }
 
-fn refused(fault: Fault) -> Outcome {
-    Outcome::Refused(
+pub(crate) fn refused(number: u8, later: Place, earlier: Place) -> Outcome {
+    Err((number, later, earlier))
+}
+
+// The outcome of a fault.
+fn outcome_of(fault: Fault) -> Outcome {
+    refused(
         fault.refusal.number(),
         (fault.later.packet, fault.later.slot),
         (fault.earlier.packet, fault.earlier.slot),
@@ -35,7 +41,7 @@ fn refused(fault: Fault) -> Outcome {
 // The instruction of a record, and whether its packet goes on.
 fn admitted(bytes: &[u8; 8]) -> Result<(Instruction, bool), Fail> {
     let (record, _) = Record::read(bytes)?;
-    Ok((admit(&BuiltIn, record)?, Flags::from(record.flags).p))
+    Ok((admit(&BuiltIn, record)?, bytes[2] % 2 == 1))
 }
 
 // Takes the records one by one, and ends with them or at the first packet that is refused.
@@ -54,7 +60,7 @@ pub(crate) fn schedule(rt: &impl Abort, lawful: u64, records: &[[u8; 8]]) -> Res
         }
         let accepted = match judge(&history, &packet) {
             Ok(accepted) => accepted,
-            Err(fault) => return Ok(refused(fault)),
+            Err(fault) => return Ok(outcome_of(fault)),
         };
         history.accept(&packet)?;
         packet.clear();
@@ -63,7 +69,7 @@ pub(crate) fn schedule(rt: &impl Abort, lawful: u64, records: &[[u8; 8]]) -> Res
         stalls = stalls.wrapping_add(usize::from(accepted.stall));
     }
     assert!(rt; packet.is_empty());
-    Ok(Outcome::Accepted(packets, cycles, stalls))
+    Ok(accepted(packets, cycles, stalls))
 }
 
 // Schedules and what is to become of each. A case that fails is told by its place.

@@ -1,7 +1,6 @@
 // Which packets stall: they read over the cross path what landed in the cycle before.
 use crate::records::*;
-use crate::schedule::Outcome::Accepted;
-use crate::schedule::{ALL, check_all};
+use crate::schedule::{ALL, accepted, check_all};
 use std::test::Fail;
 
 // ADD lands in its issue cycle: the next packet stalls if it issues just then, and reads A1 as the s2 of an instruction with X.
@@ -16,16 +15,16 @@ fn after_a_result(rt: HostRuntime) -> Result<(), Fail> {
         &rt,
         ALL,
         &[
-            (&[read], Accepted(1, 1, 0)),
-            (&[p(add), read], Accepted(1, 1, 0)),
-            (&[add, read], Accepted(2, 2, 1)),
-            (&[add, other], Accepted(2, 2, 0)),
-            (&[add, own_side], Accepted(2, 2, 0)),
-            (&[s1, read], Accepted(2, 2, 0)),
-            (&[add, nop(1), read], Accepted(3, 3, 0)),
-            (&[p(add), nop(1), read], Accepted(2, 2, 1)),
-            (&[p(add), nop(4), read], Accepted(2, 5, 0)),
-            (&[add, p(read), nop(4)], Accepted(2, 5, 1)),
+            (&[read], accepted(1, 1, 0)),
+            (&[p(add), read], accepted(1, 1, 0)),
+            (&[add, read], accepted(2, 2, 1)),
+            (&[add, other], accepted(2, 2, 0)),
+            (&[add, own_side], accepted(2, 2, 0)),
+            (&[s1, read], accepted(2, 2, 0)),
+            (&[add, nop(1), read], accepted(3, 3, 0)),
+            (&[p(add), nop(1), read], accepted(2, 2, 1)),
+            (&[p(add), nop(4), read], accepted(2, 5, 0)),
+            (&[add, p(read), nop(4)], accepted(2, 5, 1)),
         ],
     )
 }
@@ -42,10 +41,10 @@ fn one_for_a_packet(rt: HostRuntime) -> Result<(), Fail> {
         &rt,
         ALL,
         &[
-            (&[a1, p(read), twin], Accepted(2, 2, 1)),
-            (&[p(a1), b1, p(twin), back], Accepted(2, 2, 1)),
-            (&[a1, read, back], Accepted(3, 3, 2)),
-            (&[a1, read, twin], Accepted(3, 3, 1)),
+            (&[a1, p(read), twin], accepted(2, 2, 1)),
+            (&[p(a1), b1, p(twin), back], accepted(2, 2, 1)),
+            (&[a1, read, back], accepted(3, 3, 2)),
+            (&[a1, read, twin], accepted(3, 3, 1)),
         ],
     )
 }
@@ -61,14 +60,14 @@ fn after_later_landings(rt: HostRuntime) -> Result<(), Fail> {
         &rt,
         ALL,
         &[
-            (&[mpy, odd], Accepted(2, 2, 0)),
-            (&[mpy, nop(1), odd], Accepted(3, 3, 1)),
-            (&[p(mpy), nop(2), odd], Accepted(2, 3, 1)),
-            (&[mpy, nop(2), odd], Accepted(3, 4, 0)),
-            (&[pair, nop(2), odd], Accepted(3, 4, 0)),
-            (&[pair, nop(3), odd], Accepted(3, 5, 1)),
-            (&[pair, nop(3), even], Accepted(3, 5, 1)),
-            (&[pair, nop(4), odd], Accepted(3, 6, 0)),
+            (&[mpy, odd], accepted(2, 2, 0)),
+            (&[mpy, nop(1), odd], accepted(3, 3, 1)),
+            (&[p(mpy), nop(2), odd], accepted(2, 3, 1)),
+            (&[mpy, nop(2), odd], accepted(3, 4, 0)),
+            (&[pair, nop(2), odd], accepted(3, 4, 0)),
+            (&[pair, nop(3), odd], accepted(3, 5, 1)),
+            (&[pair, nop(3), even], accepted(3, 5, 1)),
+            (&[pair, nop(4), odd], accepted(3, 6, 0)),
         ],
     )
 }
@@ -85,13 +84,13 @@ fn after_loads_and_stores(rt: HostRuntime) -> Result<(), Fail> {
         &rt,
         ALL,
         &[
-            (&[load, nop(4), data], Accepted(3, 6, 0)),
-            (&[p(load), nop(5), data], Accepted(2, 6, 0)),
-            (&[load, base], Accepted(2, 2, 1)),
-            (&[load, nop(1), base], Accepted(3, 3, 0)),
-            (&[still, base], Accepted(2, 2, 0)),
-            (&[store, base], Accepted(2, 2, 1)),
-            (&[store, data], Accepted(2, 2, 0)),
+            (&[load, nop(4), data], accepted(3, 6, 0)),
+            (&[p(load), nop(5), data], accepted(2, 6, 0)),
+            (&[load, base], accepted(2, 2, 1)),
+            (&[load, nop(1), base], accepted(3, 3, 0)),
+            (&[still, base], accepted(2, 2, 0)),
+            (&[store, base], accepted(2, 2, 1)),
+            (&[store, data], accepted(2, 2, 0)),
         ],
     )
 }
@@ -106,10 +105,10 @@ fn under_conditions(rt: HostRuntime) -> Result<(), Fail> {
         &rt,
         0x5555_5555_5555_5555,
         &[
-            (&[add, read], Accepted(2, 2, 1)),
-            (&[add, when(UNLESS_B0, read)], Accepted(2, 2, 1)),
-            (&[load, nop(4), read], Accepted(3, 6, 0)),
-            (&[load, nop(3), add, read], Accepted(4, 6, 1)),
+            (&[add, read], accepted(2, 2, 1)),
+            (&[add, when(UNLESS_B0, read)], accepted(2, 2, 1)),
+            (&[load, nop(4), read], accepted(3, 6, 0)),
+            (&[load, nop(3), add, read], accepted(4, 6, 1)),
         ],
     )
 }

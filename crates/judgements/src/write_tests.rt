@@ -1,7 +1,6 @@
 // Two writes of a register that land in one cycle: 19.
 use crate::records::*;
-use crate::schedule::Outcome::{Accepted, Refused};
-use crate::schedule::{ALL, check_all};
+use crate::schedule::{ALL, accepted, check_all, refused};
 use std::test::Fail;
 
 // MPY lands one cycle after its issue, ADD and SUB in it: what counts is the landing, never the issue.
@@ -15,14 +14,14 @@ fn landing_not_issue(rt: HostRuntime) -> Result<(), Fail> {
         &rt,
         ALL,
         &[
-            (&[mpy, add], Refused(19, (1, 0), (0, 0))),
-            (&[p(mpy), add], Accepted(1, 1, 0)),
-            (&[add, mpy], Accepted(2, 2, 0)),
-            (&[mpy, nop(1), add], Accepted(3, 3, 0)),
-            (&[p(mpy), nop(2), add], Accepted(2, 3, 0)),
-            (&[p(add), sub], Refused(19, (0, 1), (0, 0))),
-            (&[add, sub], Accepted(2, 2, 0)),
-            (&[p(far), mpy, p(far), add], Refused(19, (1, 1), (0, 1))),
+            (&[mpy, add], refused(19, (1, 0), (0, 0))),
+            (&[p(mpy), add], accepted(1, 1, 0)),
+            (&[add, mpy], accepted(2, 2, 0)),
+            (&[mpy, nop(1), add], accepted(3, 3, 0)),
+            (&[p(mpy), nop(2), add], accepted(2, 3, 0)),
+            (&[p(add), sub], refused(19, (0, 1), (0, 0))),
+            (&[add, sub], accepted(2, 2, 0)),
+            (&[p(far), mpy, p(far), add], refused(19, (1, 1), (0, 1))),
         ],
     )
 }
@@ -37,13 +36,13 @@ fn after_three_cycles(rt: HostRuntime) -> Result<(), Fail> {
         &rt,
         ALL,
         &[
-            (&[product, nop(1), add], Accepted(3, 3, 0)),
-            (&[product, nop(2), add], Refused(19, (2, 0), (0, 0))),
-            (&[product, nop(3), add], Accepted(3, 5, 0)),
-            (&[p(product), nop(3), add], Refused(19, (1, 0), (0, 0))),
-            (&[product, mpy], Accepted(2, 2, 0)),
-            (&[product, nop(1), mpy], Refused(19, (2, 0), (0, 0))),
-            (&[product, nop(2), mpy], Accepted(3, 4, 0)),
+            (&[product, nop(1), add], accepted(3, 3, 0)),
+            (&[product, nop(2), add], refused(19, (2, 0), (0, 0))),
+            (&[product, nop(3), add], accepted(3, 5, 0)),
+            (&[p(product), nop(3), add], refused(19, (1, 0), (0, 0))),
+            (&[product, mpy], accepted(2, 2, 0)),
+            (&[product, nop(1), mpy], refused(19, (2, 0), (0, 0))),
+            (&[product, nop(2), mpy], accepted(3, 4, 0)),
         ],
     )
 }
@@ -59,15 +58,15 @@ fn after_four_cycles(rt: HostRuntime) -> Result<(), Fail> {
         &rt,
         ALL,
         &[
-            (&[load, nop(2), add], Accepted(3, 4, 0)),
-            (&[load, nop(3), add], Refused(19, (2, 0), (0, 0))),
-            (&[load, nop(4), add], Accepted(3, 6, 0)),
-            (&[p(load), nop(4), add], Refused(19, (1, 0), (0, 0))),
-            (&[p(load), nop(5), add], Accepted(2, 6, 0)),
-            (&[load, product], Refused(19, (1, 0), (0, 0))),
-            (&[p(load), product], Accepted(1, 1, 0)),
-            (&[load, nop(2), mpy], Refused(19, (2, 0), (0, 0))),
-            (&[load, load], Accepted(2, 2, 0)),
+            (&[load, nop(2), add], accepted(3, 4, 0)),
+            (&[load, nop(3), add], refused(19, (2, 0), (0, 0))),
+            (&[load, nop(4), add], accepted(3, 6, 0)),
+            (&[p(load), nop(4), add], refused(19, (1, 0), (0, 0))),
+            (&[p(load), nop(5), add], accepted(2, 6, 0)),
+            (&[load, product], refused(19, (1, 0), (0, 0))),
+            (&[p(load), product], accepted(1, 1, 0)),
+            (&[load, nop(2), mpy], refused(19, (2, 0), (0, 0))),
+            (&[load, load], accepted(2, 2, 0)),
         ],
     )
 }
@@ -85,12 +84,12 @@ fn halves_of_a_pair(rt: HostRuntime) -> Result<(), Fail> {
         &rt,
         ALL,
         &[
-            (&[load, nop(3), below], Accepted(3, 5, 0)),
-            (&[load, nop(3), even], Refused(19, (2, 0), (0, 0))),
-            (&[load, nop(3), odd], Refused(19, (2, 0), (0, 0))),
-            (&[load, nop(3), above], Accepted(3, 5, 0)),
-            (&[load, nop(2), odd], Accepted(3, 4, 0)),
-            (&[p(store), odd], Accepted(1, 1, 0)),
+            (&[load, nop(3), below], accepted(3, 5, 0)),
+            (&[load, nop(3), even], refused(19, (2, 0), (0, 0))),
+            (&[load, nop(3), odd], refused(19, (2, 0), (0, 0))),
+            (&[load, nop(3), above], accepted(3, 5, 0)),
+            (&[load, nop(2), odd], accepted(3, 4, 0)),
+            (&[p(store), odd], accepted(1, 1, 0)),
         ],
     )
 }
@@ -108,13 +107,13 @@ fn a_pair_after_a_load(rt: HostRuntime) -> Result<(), Fail> {
         &rt,
         ALL,
         &[
-            (&[even, pair], Refused(19, (1, 0), (0, 0))),
-            (&[odd, pair], Refused(19, (1, 0), (0, 0))),
-            (&[above, pair], Accepted(2, 2, 0)),
-            (&[both, pair], Refused(19, (1, 0), (0, 0))),
-            (&[both, nop(1), pair], Accepted(3, 3, 0)),
-            (&[pair, nop(2), moved], Refused(19, (2, 0), (0, 0))),
-            (&[pair, nop(3), moved], Accepted(3, 5, 0)),
+            (&[even, pair], refused(19, (1, 0), (0, 0))),
+            (&[odd, pair], refused(19, (1, 0), (0, 0))),
+            (&[above, pair], accepted(2, 2, 0)),
+            (&[both, pair], refused(19, (1, 0), (0, 0))),
+            (&[both, nop(1), pair], accepted(3, 3, 0)),
+            (&[pair, nop(2), moved], refused(19, (2, 0), (0, 0))),
+            (&[pair, nop(3), moved], accepted(3, 5, 0)),
         ],
     )
 }
@@ -131,14 +130,14 @@ fn updates(rt: HostRuntime) -> Result<(), Fail> {
         &rt,
         ALL,
         &[
-            (&[p(load), add], Refused(19, (0, 1), (0, 0))),
-            (&[p(add), store], Refused(19, (0, 1), (0, 0))),
-            (&[p(still), add], Accepted(1, 1, 0)),
-            (&[load, add], Accepted(2, 2, 0)),
-            (&[mpy, load], Refused(19, (1, 0), (0, 0))),
-            (&[mpy, store], Refused(19, (1, 0), (0, 0))),
-            (&[mpy, still], Accepted(2, 2, 0)),
-            (&[p(mpy), load], Accepted(1, 1, 0)),
+            (&[p(load), add], refused(19, (0, 1), (0, 0))),
+            (&[p(add), store], refused(19, (0, 1), (0, 0))),
+            (&[p(still), add], accepted(1, 1, 0)),
+            (&[load, add], accepted(2, 2, 0)),
+            (&[mpy, load], refused(19, (1, 0), (0, 0))),
+            (&[mpy, store], refused(19, (1, 0), (0, 0))),
+            (&[mpy, still], accepted(2, 2, 0)),
+            (&[p(mpy), load], accepted(1, 1, 0)),
         ],
     )
 }
@@ -155,13 +154,13 @@ fn data_and_update(rt: HostRuntime) -> Result<(), Fail> {
         &rt,
         ALL,
         &[
-            (&[p(data), load], Accepted(1, 1, 0)),
-            (&[load, nop(3), data], Refused(19, (2, 0), (0, 0))),
-            (&[load, nop(3), add], Accepted(3, 5, 0)),
-            (&[own], Accepted(1, 1, 0)),
-            (&[p(own), add], Refused(19, (0, 1), (0, 0))),
-            (&[own, nop(3), add], Refused(19, (2, 0), (0, 0))),
-            (&[base, nop(3), load], Refused(19, (2, 0), (0, 0))),
+            (&[p(data), load], accepted(1, 1, 0)),
+            (&[load, nop(3), data], refused(19, (2, 0), (0, 0))),
+            (&[load, nop(3), add], accepted(3, 5, 0)),
+            (&[own], accepted(1, 1, 0)),
+            (&[p(own), add], refused(19, (0, 1), (0, 0))),
+            (&[own, nop(3), add], refused(19, (2, 0), (0, 0))),
+            (&[base, nop(3), load], refused(19, (2, 0), (0, 0))),
         ],
     )
 }

@@ -73,17 +73,17 @@ entry_line e = line_of (operation e) (row_of e)
 abbrev pub entry_lines : List (List ℕ) → List ℕ
 entry_lines es = flat_map entry_line es
 
--- `rows N`
-abbrev pub count_line : ℕ → List ℕ
-count_line n = codes "rows " ++ (decimal n ++ (10 ∷ []))
+-- a text and a number, as a line
+abbrev pub number_line : List ℕ → ℕ → List ℕ
+number_line text n = text ++ (decimal n ++ (10 ∷ []))
 
 -- `rows N` and the lines
 abbrev pub rows_text : List (List ℕ) → List ℕ
-rows_text es = count_line (length es) ++ entry_lines es
+rows_text es = number_line (codes "rows ") (length es) ++ entry_lines es
 
 -- `file: refused N`
 abbrev pub refused_text : ℕ → List ℕ
-refused_text n = codes "file: refused " ++ (decimal n ++ (10 ∷ []))
+refused_text n = number_line (codes "file: refused ") n
 
 -- what is printed of a file: its rows, or why it is refused
 abbrev pub Printed : List ℕ → List ℕ → Type 0

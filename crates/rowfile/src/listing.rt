@@ -3,7 +3,7 @@
 ghost use Rattle.std.specs.Prelude.{◌≡◌, ℕ, ◌+◌, ◌*◌, ◌≤◌, List, length, IsOk, OnOk, MatchResult};
 ghost use Rattle.isa.specs.Refusals.{number};
 ghost use Rattle.rowfile.specs.declared.listing.TheConstants.{LISTING_BYTES};
-ghost use Rattle.rowfile.specs.Listings.{Adds, Room, alignment_name, unit_text, side_text, units_text, tail_text, head_text, row_line, entry_line, entry_lines, count_line, rows_text, refused_text, Printed};
+ghost use Rattle.rowfile.specs.Listings.{Adds, Room, alignment_name, unit_text, side_text, units_text, tail_text, head_text, row_line, entry_line, number_line, rows_text, Printed};
 
 use crate::entry::read_row;
 use crate::file::RowFile;
@@ -106,22 +106,14 @@ fn entry_line(entry: &[u8; 8]) -> ArrayString<96>
     }
 }
 
-fn count_line(count: usize) -> ArrayString<32>
-    ensures { result.bytes ≡ count_line count }
+// A text and a number, as a line.
+fn number_line(text: &str, number: usize) -> ArrayString<64>
+    requires short { length text.now ≤ 40 }
+    ensures { result.bytes ≡ number_line text.now number }
 {
     let mut line = ArrayString::new();
-    line.push_str("rows ");
-    line.push_str(Buffer::new().format(count));
-    line.push_str("\n");
-    line
-}
-
-fn refused_text(refusal: Refusal) -> ArrayString<32>
-    ensures { result.bytes ≡ refused_text (number refusal) }
-{
-    let mut line = ArrayString::new();
-    line.push_str("file: refused ");
-    line.push_str(Buffer::new().format(refusal.number()));
+    line.push_str(text);
+    line.push_str(Buffer::new().format(number));
     line.push_str("\n");
     line
 }
@@ -130,7 +122,7 @@ fn put_rows(out: &mut Vec<u8>, entries: &[[u8; 8]]) -> Result<(), AllocError>
     ensures adds { OnOk result (Adds out.old out.new (rows_text entries.now)) }
     ensures succeeds { Room out.old (96 * (1 + length entries.now)) → IsOk result }
 {
-    out.extend_from_slice(count_line(entries.len()).as_bytes())?;
+    out.extend_from_slice(number_line("rows ", entries.len()).as_bytes())?;
     for entry in entries {
         out.extend_from_slice(entry_line(entry).as_bytes())?;
     }
@@ -148,6 +140,9 @@ pub fn list_rows(bytes: &[u8], out: &mut Vec<u8>) -> Result<(), AllocError>
     out.reserve(LISTING_BYTES)?;
     match RowFile::read(bytes) {
         Ok(file) => put_rows(out, file.entries),
-        Err(refusal) => out.extend_from_slice(refused_text(refusal).as_bytes()),
+        Err(refusal) => {
+            let number = usize::from(refusal.number());
+            out.extend_from_slice(number_line("file: refused ", number).as_bytes())
+        }
     }
 }

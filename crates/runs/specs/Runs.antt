@@ -6,7 +6,7 @@ use Rattle.isa.specs.declared.condition.Condition.TheVariants.{Always}
 use Rattle.isa.specs.Bits.{bit}
 use Rattle.runs.specs.declared.valuations.Valuations.{Valuations}
 use Rattle.runs.specs.declared.valuations.Changes.{Changes}
-use Rattle.runs.specs.Valuations.{Meets, Has, MayChange}
+use Rattle.runs.specs.Valuations.{Meets, Has, MayChange, HoldsJust}
 
 -- run gives each of the packets 0 to n a lawful valuation, the first from those at the start; from packet k to the next a condition register differs only if it may
 pub record Run (lawful start : Valuations) (may : ℕ → ℕ → Type 0) (n : ℕ) (run : ℕ → ℕ) : Type 0 where
@@ -24,7 +24,7 @@ Both lawful start may n j c k d = (run : ℕ → ℕ) × Run lawful start may n 
 
 -- the set holds just the valuations of packet n in the runs that perform a write of packet j under c
 abbrev pub Carries : Valuations → Valuations → (ℕ → ℕ → Type 0) → ℕ → ℕ → Condition → Valuations → Type 0
-Carries lawful start may n j c s = (v : ℕ) → v < 64 → Has s v ↔ Ends lawful start may n j c v
+Carries lawful start may n j c s = HoldsJust s (Ends lawful start may n j c)
 
 -- the set holds just the valuations that runs can have in packet n
 abbrev pub Reaches : Valuations → Valuations → (ℕ → ℕ → Type 0) → ℕ → Valuations → Type 0

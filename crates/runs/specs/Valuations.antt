@@ -1,6 +1,6 @@
 -- Valuations, conditions and sets of valuations.
 -- A valuation is a number from 0 to 63; each of its bits tells whether a condition register is nonzero.
-use Rattle.std.specs.Prelude.{◌≡◌, ℕ, ◌<◌, ◌⊎◌}
+use Rattle.std.specs.Prelude.{◌≡◌, ℕ, ◌<◌, ◌↔◌, ◌⊎◌}
 use Rattle.isa.specs.declared.condition.Condition.{Condition}
 use Rattle.isa.specs.declared.condition.Condition.TheVariants.{Always, Nonzero, Zero}
 use Rattle.isa.specs.declared.condition.ConditionRegister.{ConditionRegister}
@@ -31,6 +31,14 @@ Has s v = bit s.bits v ≡ 1
 -- the condition register of place i may change
 abbrev pub MayChange : Changes → ℕ → Type 0
 MayChange m i = bit m.mask i ≡ 1
+
+-- the registers that may change are just those whose places have the property
+abbrev pub ChangesJust : Changes → (ℕ → Type 0) → Type 0
+ChangesJust m P = (i : ℕ) → i < 6 → MayChange m i ↔ P i
+
+-- the valuations of the set are just those that have the property
+abbrev pub HoldsJust : Valuations → (ℕ → Type 0) → Type 0
+HoldsJust s P = (v : ℕ) → v < 64 → Has s v ↔ P v
 
 -- from v to w each register may change or stays as it is
 abbrev pub Follows : Changes → ℕ → ℕ → Type 0

@@ -5,7 +5,7 @@ ghost use Rattle.isa.specs.declared.condition.Condition.{Condition};
 ghost use Rattle.runs.specs.declared.valuations.Valuations.{Valuations};
 ghost use Rattle.runs.specs.declared.valuations.Changes.{Changes};
 ghost use Rattle.runs.specs.Runs.{Both, Carries, Reaches, MayOf};
-ghost use Rattle.runs.specs.Valuations.{place, Meets, Has, MayChange, After};
+ghost use Rattle.runs.specs.Valuations.{place, Meets, Has, MayChange, ChangesJust, HoldsJust, After};
 
 use isa::condition::{Condition, ConditionRegister};
 
@@ -51,7 +51,7 @@ impl Changes {
 
     // One register may change.
     pub fn of(register: ConditionRegister) -> Changes
-        ensures members { (i : ℕ) → i < 6 → MayChange result i ↔ (place register ≡ i) }
+        ensures members { ChangesJust result (λ i. place register ≡ i) }
     {
         Changes {
             mask: 1 << place(register),
@@ -75,16 +75,25 @@ impl Changes {
 }
 
 impl Valuations {
+    // Each of the valuations.
+    pub const ALL: Valuations = Valuations { bits: u64::MAX };
+
+    // No valuation.
+    pub const NONE: Valuations = Valuations { bits: 0 };
+
     // The valuations in which a condition holds.
     pub fn meeting(condition: Condition) -> Valuations
-        ensures members { (v : ℕ) → v < 64 → Has result v ↔ Meets condition v }
+        ensures members { HoldsJust result (Meets condition) }
     {
-        let bits = match condition {
-            Condition::Always => u64::MAX,
-            Condition::Nonzero(register) => NONZERO[place(register)],
-            Condition::Zero(register) => !NONZERO[place(register)],
-        };
-        Valuations { bits }
+        match condition {
+            Condition::Always => Valuations::ALL,
+            Condition::Nonzero(register) => Valuations {
+                bits: NONZERO[place(register)],
+            },
+            Condition::Zero(register) => Valuations {
+                bits: !NONZERO[place(register)],
+            },
+        }
     }
 
     // The valuations that are in both sets.
@@ -106,7 +115,7 @@ impl Valuations {
 
     // Of the valuations that runs can have in a packet, those in which its writes under a condition are performed.
     pub fn performing(self, condition: Condition) -> Valuations
-        ensures members { (v : ℕ) → v < 64 → Has result v ↔ (Has self v × Meets condition v) }
+        ensures members { HoldsJust result (λ v. Has self v × Meets condition v) }
         ensures carries { (lawful start : Valuations) (ms : List Changes) → Reaches lawful start (MayOf ms) (length ms) self → Carries lawful start (MayOf ms) (length ms) (length ms) condition result }
     {
         self.common(Valuations::meeting(condition))
@@ -122,7 +131,7 @@ impl Valuations {
 
     // The valuations that may follow one of the set, where only some registers may change, within the lawful ones.
     pub fn step(self, lawful: Valuations, changes: Changes) -> Valuations
-        ensures members { (w : ℕ) → w < 64 → Has result w ↔ (Has lawful w × After self changes w) }
+        ensures members { HoldsJust result (λ w. Has lawful w × After self changes w) }
         ensures carries { (start : Valuations) (ms : List Changes) (j : ℕ) (c : Condition) → j ≤ length ms → Carries lawful start (MayOf ms) (length ms) j c self → Carries lawful start (MayOf (ms ++ changes ∷ [])) (length ms + 1) j c result }
     {
         lawful.common(expand(self, changes))
@@ -143,7 +152,7 @@ fn spread(set: Valuations, register: ConditionRegister) -> Valuations
 
 // The valuations that may follow one of the set, lawful or not: one register after the other.
 fn expand(set: Valuations, changes: Changes) -> Valuations
-    ensures members { (w : ℕ) → w < 64 → Has result w ↔ After set changes w }
+    ensures members { HoldsJust result (After set changes) }
 {
     let mut all = set;
     for register in ConditionRegister::ALL {

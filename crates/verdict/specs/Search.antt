@@ -1,4 +1,4 @@
--- The first clash among entries, and the first slot that completes a fault of the packet, as faults.
+-- The first clash among entries, and the first slot that completes a fault of the packet, as faults; and that claims fit in memory.
 use Rattle.std.specs.Prelude.{◌≡◌, ℕ, List, Some}
 use Rattle.std.specs.Borrow.{RattleType}
 use Rattle.std.specs.Mem.{FitsInMemory}

@@ -93,7 +93,7 @@ impl<R: Repertoire> Checker<R> {
 
     // One call, by the checker's state.
     pub fn call(&mut self, call: Call) -> Result<Answer, Fault>
-        ensures serves { Serves (rules_of (R.Repertoire.map self.old.repertoire) self.old) self.old call self.new result }
+        ensures serves { Serves (R.Repertoire.map self.old.repertoire) self.old call self.new result }
         ensures rules { KeepsRules self.old self.new }
     {
         match (self.state, call) {
@@ -114,7 +114,7 @@ impl<R: Repertoire> Checker<R> {
 
     // One record more.
     pub fn take(&mut self, record: Record) -> Result<Answer, Fault>
-        ensures serves { Serves (rules_of (R.Repertoire.map self.old.repertoire) self.old) self.old (Take «record») self.new result }
+        ensures serves { Serves (R.Repertoire.map self.old.repertoire) self.old (Take «record») self.new result }
         ensures rules { KeepsRules self.old self.new }
     {
         self.call(Call::Take(record))
@@ -122,7 +122,7 @@ impl<R: Repertoire> Checker<R> {
 
     // No record more.
     pub fn close(&mut self) -> Result<Answer, Fault>
-        ensures serves { Serves (rules_of (R.Repertoire.map self.old.repertoire) self.old) self.old Close self.new result }
+        ensures serves { Serves (R.Repertoire.map self.old.repertoire) self.old Close self.new result }
         ensures rules { KeepsRules self.old self.new }
     {
         self.call(Call::Close)

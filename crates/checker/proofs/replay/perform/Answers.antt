@@ -11,7 +11,7 @@ loop-call-preserved g c =
     let inv = c.loop-call.invariant in
     let kept = c.call.ensures.rules in (
       λ b stands.
-          performs_more (rules_of (rows first.repertoire) first) (rules_of (rows here.repertoire) here) b c.args.calls.now c.loop-call.call-index _ (vec_items c.args.answers.now)
+          performs_more (rules_of (rows first.repertoire) first) (rows here.repertoire) b c.args.calls.now c.loop-call.call-index _ (vec_items c.args.answers.now)
           (vec_items c.loop-call.answers) (vec_items c.push_reserved.new.self) here c.call.new.self c.call.result c.loop-call-test.true
           (same_rules rows here first inv.1 inv.2) (inv.0 b stands) c.call.ensures.serves c.push_reserved.ensures.items,
       kept.0 ∙ inv.1,
