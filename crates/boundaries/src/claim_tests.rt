@@ -1,10 +1,13 @@
 // Two instructions that clash or do not, kind by kind, and the first clash of a packet.
 use crate::records::instruction;
+use admission::admit::admit;
 use admission::instruction::Instruction;
 use claims::claim::{Claim, first_clash};
 use claims::kinds::{AlignmentClaim, CrossPathClaim, DataPathClaim, NopClaim, UnitClaim};
 use claims::port::PortClaim;
 use claims::write::WriteClaim;
+use isa::record::Record;
+use rowfile::file::RowFile;
 use runs::valuations::Valuations;
 use std::test::Fail;
 
@@ -72,6 +75,25 @@ fn ports(rt: HostRuntime) -> Result<(), Fail> {
     assert!(rt; PortClaim::new(&two, 2).clashes(&PortClaim::new(&two, 2)));
     assert!(rt; !PortClaim::new(&pair, 0).clashes(&PortClaim::new(&two, 1)));
     assert!(rt; !PortClaim::new(&pair, 0).clashes(&PortClaim::new(&far, 2)));
+    Ok(())
+}
+
+// A single cycle operation of a row file on .M lands at once, and shares its cycle with nothing.
+#[test]
+fn ports_of_a_row_file(rt: HostRuntime) -> Result<(), Fail> {
+    let file = [1, 0, 40, 1, 0x44, 0, 1, 1, 1, 0];
+    let (record, _) = Record::read(&[40, 3, 0, 0, 0, 1, 2, 0])?;
+    let one = admit(&RowFile::read(&file)?, record)?;
+    let two = instruction([7, 3, 0, 0, 1, 2, 3, 0])?;
+    let four = instruction([9, 3, 0, 0, 0, 1, 2, 0])?;
+    assert!(rt; PortClaim::new(&one, 0).clashes(&PortClaim::new(&one, 0)));
+    assert!(rt; PortClaim::new(&two, 0).clashes(&PortClaim::new(&one, 1)));
+    assert!(rt; PortClaim::new(&one, 1).clashes(&PortClaim::new(&two, 0)));
+    assert!(rt; PortClaim::new(&four, 0).clashes(&PortClaim::new(&one, 3)));
+    assert!(rt; PortClaim::new(&one, 3).clashes(&PortClaim::new(&four, 0)));
+    assert!(rt; !PortClaim::new(&two, 0).clashes(&PortClaim::new(&one, 0)));
+    assert!(rt; !PortClaim::new(&four, 0).clashes(&PortClaim::new(&one, 2)));
+    assert!(rt; !PortClaim::new(&four, 0).clashes(&PortClaim::new(&one, 4)));
     Ok(())
 }
 
