@@ -38,7 +38,7 @@ fn spelled_row(entry: &[u8; 8]) -> Option<Row>
 
 // The row of an entry, or none where a byte is out of range or the row breaks the rule.
 pub fn read_row(entry: &[u8; 8]) -> Option<Row>
-    ensures { result ≡ row_of entry.now }
+    ensures value { result ≡ row_of entry.now }
 {
     spelled_row(entry).filter(|row| row.keeps_rule())
 }

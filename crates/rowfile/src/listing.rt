@@ -1,8 +1,7 @@
 // A row file in words: the count of rows, then a line for each. A line is made on the stack, in a text of a type that
 // has room for the longest: a `write!` is not known to succeed where there is room, and `push_str` is.
-ghost use Rattle.std.specs.Prelude.{◌≡◌, ℕ, ◌+◌, ◌*◌, ◌≤◌, List, length, IsOk, OnOk, MatchResult};
+ghost use Rattle.std.specs.Prelude.{◌≡◌, ℕ, ◌+◌, ◌*◌, ◌≤◌, ◌++◌, List, length, IsOk, OnOk, MatchResult};
 ghost use Rattle.isa.specs.Refusals.{number};
-ghost use Rattle.rowfile.specs.declared.listing.TheConstants.{LISTING_BYTES};
 ghost use Rattle.rowfile.specs.Listings.{Adds, Room, alignment_name, unit_text, side_text, units_text, tail_text, head_text, row_line, entry_line, number_line, rows_text, Printed};
 
 use crate::entry::read_row;
@@ -15,40 +14,40 @@ use isa::unit::{FunctionalUnit, Side, UnitKind, Units};
 use itoa::Buffer;
 use std::alloc::AllocError;
 
-// The name of a unit that is permitted, behind a space.
-fn unit_text(units: Units, kind: UnitKind, side: Side) -> ArrayString<4>
-    ensures { result.bytes ≡ unit_text units kind side }
+// Adds the name of a unit that is permitted, behind a space.
+fn push_unit(line: &mut ArrayString<96>, units: Units, kind: UnitKind, side: Side)
+    requires room { length line.old.bytes + 4 ≤ 96 }
+    ensures adds { line.new.bytes ≡ line.old.bytes ++ unit_text units kind side }
+    ensures short { length line.new.bytes ≤ length line.old.bytes + 4 }
 {
     let unit = FunctionalUnit { kind, side };
-    let mut text = ArrayString::new();
     if units.permit(unit) {
-        text.push_str(" ");
-        text.push_str(unit.name());
+        line.push_str(" ");
+        line.push_str(unit.name());
     }
-    text
 }
 
-fn side_text(units: Units, side: Side) -> ArrayString<16>
-    ensures { result.bytes ≡ side_text units side }
+fn push_side(line: &mut ArrayString<96>, units: Units, side: Side)
+    requires room { length line.old.bytes + 16 ≤ 96 }
+    ensures adds { line.new.bytes ≡ line.old.bytes ++ side_text units side }
+    ensures short { length line.new.bytes ≤ length line.old.bytes + 16 }
 {
-    let mut text = ArrayString::new();
     for kind in [UnitKind::L, UnitKind::S, UnitKind::M, UnitKind::D] {
-        text.push_str(unit_text(units, kind, side).as_str());
+        push_unit(line, units, kind, side);
     }
-    text
 }
 
-fn units_text(units: Units) -> ArrayString<32>
-    ensures { result.bytes ≡ units_text units }
+fn push_units(line: &mut ArrayString<96>, units: Units)
+    requires room { length line.old.bytes + 32 ≤ 96 }
+    ensures adds { line.new.bytes ≡ line.old.bytes ++ units_text units }
+    ensures short { length line.new.bytes ≤ length line.old.bytes + 32 }
 {
-    let mut text = ArrayString::new();
     if units.permit_some() {
-        text.push_str(side_text(units, Side::A).as_str());
-        text.push_str(side_text(units, Side::B).as_str());
+        push_side(line, units, Side::A);
+        push_side(line, units, Side::B);
     } else {
-        text.push_str(" none");
+        line.push_str(" none");
     }
-    text
 }
 
 fn alignment_name(nonaligned: bool) -> &'static str
@@ -62,37 +61,37 @@ fn alignment_name(nonaligned: bool) -> &'static str
     }
 }
 
-fn tail_text(row: Row) -> ArrayString<32>
-    ensures { result.bytes ≡ tail_text row }
+fn push_tail(line: &mut ArrayString<96>, row: Row)
+    requires room { length line.old.bytes + 32 ≤ 96 }
+    ensures adds { line.new.bytes ≡ line.old.bytes ++ tail_text row }
 {
-    let mut text = ArrayString::new();
-    text.push_str(alignment_name(row.nonaligned));
+    line.push_str(alignment_name(row.nonaligned));
     for width in [row.s1, row.s2, row.dst] {
-        text.push_str(" ");
-        text.push_str(width.name());
+        line.push_str(" ");
+        line.push_str(width.name());
     }
-    text.push_str("\n");
-    text
+    line.push_str("\n");
 }
 
-fn head_text(number: u8, class: Class) -> ArrayString<32>
-    ensures { result.bytes ≡ head_text number class }
+// The number and the class, at the head of a line.
+fn head(number: u8, class: Class) -> ArrayString<96>
+    ensures text { result.bytes ≡ head_text number class }
+    ensures short { length result.bytes ≤ 32 }
 {
-    let mut text = ArrayString::new();
-    text.push_str(Buffer::new().format(number));
-    text.push_str(": ");
-    text.push_str(class.name());
-    text.push_str(", units");
-    text
+    let mut line = ArrayString::new();
+    line.push_str(Buffer::new().format(number));
+    line.push_str(": ");
+    line.push_str(class.name());
+    line.push_str(", units");
+    line
 }
 
 fn row_line(number: u8, row: Row) -> ArrayString<96>
     ensures { result.bytes ≡ row_line number row }
 {
-    let mut line = ArrayString::new();
-    line.push_str(head_text(number, row.class).as_str());
-    line.push_str(units_text(row.units).as_str());
-    line.push_str(tail_text(row).as_str());
+    let mut line = head(number, row.class);
+    push_units(&mut line, row.units);
+    push_tail(&mut line, row);
     line
 }
 
@@ -135,7 +134,7 @@ pub const LISTING_BYTES: usize = 24_672;
 // Adds what a file says in words: its rows, or why it is refused.
 pub fn list_rows(bytes: &[u8], out: &mut Vec<u8>) -> Result<(), AllocError>
     ensures text { MatchResult result (λ _. (t : List ℕ) × Printed bytes.now t × Adds out.old out.new t) (λ _. out.new.items ≡ out.old.items) }
-    ensures succeeds { Room out.old LISTING_BYTES → IsOk result }
+    ensures succeeds { Room out.old 24672 → IsOk result }
 {
     out.reserve(LISTING_BYTES)?;
     match RowFile::read(bytes) {

@@ -8,7 +8,7 @@ use Rattle.rowfile.proofs.file.RowFileRepertoire.row.Goals as goal
 pub returns-in-Ok : goal.returns-in-Ok
 returns-in-Ok c =
     let by_key = c.in-Ok.ensures.position operation (answers_always _ _ _ (λ f a r g called. search rules)) in
-    c.read_row.ensures ∙ sym (searched _ c.args.self.now.rising c.args.operation (Ok _) c.in-Ok.ensures.bound by_key)
+    c.read_row.ensures.value ∙ sym (searched _ c.args.self.now.rising c.args.operation (Ok _) c.in-Ok.ensures.bound by_key)
 
 pub returns-in-Err : goal.returns-in-Err
 returns-in-Err c =
