@@ -45,7 +45,7 @@ abbrev pub issues : List InFlight → List Issued
 issues es = map (λ e. e.issued) es
 
 -- what no longer fits is left out, before or after one entry more
-take_push : {X : Type 0} (n : ℕ) (xs : List X) (x : X) → take n (take n xs ++ x ∷ []) ≡ take n (xs ++ x ∷ [])
+pub take_push : {X : Type 0} (n : ℕ) (xs : List X) (x : X) → take n (take n xs ++ x ∷ []) ≡ take n (xs ++ x ∷ [])
 take_push n xs x = grind (arith, common_steps)
 
 kept_more : (c : ℕ) (es : List InFlight) (n : ℕ) (d : InFlight) → n < length es → kept c (issues (take (n + 1) es)) ≡ kept c (issues (take n es)) ++ kept c ((get_or es n d).issued ∷ [])

@@ -1,5 +1,5 @@
 // What is kept of the accepted packets.
-ghost use Rattle.std.specs.Prelude.{◌*◌, ◌≤◌};
+ghost use Rattle.std.specs.Prelude.{◌*◌, ◌≤◌, length};
 
 use crate::issued::InFlight;
 use bounded::list::Bounded;
@@ -21,4 +21,5 @@ pub struct History {
     flight: Bounded<InFlight, 40>,
     ghost few: { packets ≤ 512 },
     ghost short: { cycle ≤ 255 * packets },
+    ghost held: { length flight ≤ 40 },
 }

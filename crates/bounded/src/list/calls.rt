@@ -48,6 +48,7 @@ impl<T: Copy, const N: usize> Bounded<T, N> {
 
     // One entry more, unless N are there: then it is handed back.
     pub fn push(&mut self, entry: T) -> Result<(), T>
+        ensures few { length self.old ≤ N }
         ensures added { is_ok result ≡ nat_lt (length self.old) N }
         ensures returned { IfErr result (λ e. e ≡ «entry») }
         ensures entries { self.new ≡ take N (self.old ++ «entry» ∷ []) }

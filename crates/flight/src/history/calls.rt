@@ -1,5 +1,5 @@
 // What is kept of the accepted packets, from packet to packet.
-ghost use Rattle.std.specs.Prelude.{◌≡◌, ◌+◌, List, [], ◌∷◌, ◌++◌, map, length, take, MatchResult, ◌↔◌, IsTrue};
+ghost use Rattle.std.specs.Prelude.{◌≡◌, ◌+◌, ◌≤◌, List, [], ◌∷◌, ◌++◌, map, length, take, MatchResult, ◌↔◌, IsTrue};
 ghost use Rattle.std.specs.List.{AllByRecursion};
 ghost use Rattle.isa.specs.declared.refusal.Refusal.TheVariants.{ScheduleFull};
 ghost use Rattle.admission.specs.declared.instruction.Instruction.{Instruction};
@@ -57,6 +57,7 @@ impl History {
     pub fn joined(&self, packet: &Packet) -> Bounded<InFlight, 48>
         ensures issued { map (λ e. e.issued) result ≡ map (λ e. e.issued) self.now.flight ++ slots self.now.packets self.now.cycle 0 packet.now }
         ensures many { length result ≡ length self.now.flight + length packet.now }
+        ensures few { length result ≤ 48 }
         ensures joined { (start : Valuations) (past : List (List Instruction)) → StandsFor self.now start past → Joined self.now.lawful start past packet.now result }
     {
         // at most forty are in flight and eight in a packet, so all have room

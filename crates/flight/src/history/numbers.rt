@@ -1,5 +1,5 @@
 // What is told of the accepted packets.
-ghost use Rattle.std.specs.Prelude.{◌≡◌, length};
+ghost use Rattle.std.specs.Prelude.{◌≡◌, ◌≤◌, length};
 
 use crate::history::History;
 
@@ -21,6 +21,7 @@ impl History {
     // How many entries are in flight.
     pub fn in_flight(&self) -> usize
         ensures value { result ≡ length self.now.flight }
+        ensures few { result ≤ 40 }
     {
         self.flight.len()
     }

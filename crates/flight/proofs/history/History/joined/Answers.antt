@@ -37,6 +37,7 @@ returns c =
     record {
       issued = all;
       many = omega (arith, length_added h.packets h.cycle xs.result.now h.flight n c.loop-slot.entries (omega arith) added, ap length xs.ensures.entries);
+      few = omega (arith, length_added h.packets h.cycle xs.result.now h.flight n c.loop-slot.entries (omega arith) added, c.as_slice.ensures.few, xs.ensures.few, ap length xs.ensures.entries);
       joined = λ start past stands. record {
         flying = joined_flight past c.args.packet.now h.packets h.cycle h.flight c.loop-slot.entries stands.many stands.time stands.flying all;
         performed = c.loop-slot.invariant.1 start past stands;
