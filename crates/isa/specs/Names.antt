@@ -1,5 +1,5 @@
--- The names of classes, widths and units.
-use Rattle.std.specs.Prelude.{ℕ, List, ◌++◌, codes}
+-- The names of classes, widths and units, and what is printed of a byte that names nothing.
+use Rattle.std.specs.Prelude.{ℕ, List, ◌++◌, codes, decimal}
 use Rattle.isa.specs.declared.class.Class.{Class}
 use Rattle.isa.specs.declared.class.Class.TheVariants.{Nop, SingleCycle, TwoCycle, FourCycle, Load, Store}
 use Rattle.isa.specs.declared.width.Width.{Width}
@@ -9,6 +9,7 @@ use Rattle.isa.specs.declared.unit.Side.TheVariants.{A, B}
 use Rattle.isa.specs.declared.unit.UnitKind.{UnitKind}
 use Rattle.isa.specs.declared.unit.UnitKind.TheVariants.{L, S, M, D}
 use Rattle.isa.specs.declared.unit.FunctionalUnit.{FunctionalUnit}
+use Rattle.isa.specs.declared.unknown.UnknownByte.{UnknownByte}
 
 -- the class in words
 abbrev pub class_name : Class → List ℕ
@@ -40,3 +41,7 @@ digit B = codes "2"
 -- a unit by its name
 abbrev pub unit_name : FunctionalUnit → List ℕ
 unit_name f = codes "." ++ (letter f.kind ++ digit f.side)
+
+-- `nothing is named by byte B`
+abbrev pub unknown_text : UnknownByte → List ℕ
+unknown_text u = codes "nothing is named by byte " ++ decimal u.0
