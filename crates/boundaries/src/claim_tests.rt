@@ -11,7 +11,7 @@ use rowfile::file::RowFile;
 use runs::valuations::Valuations;
 use std::test::Fail;
 
-const ALL: Valuations = Valuations::ALL;
+const ALL: Valuations = Valuations { bits: u64::MAX };
 
 fn nop(count: u8) -> Result<Instruction, Fail> {
     instruction([0, 0, 0, 0, 255, 255, 255, count])
@@ -105,7 +105,7 @@ fn writes(rt: HostRuntime) -> Result<(), Fail> {
     let load = instruction([11, 4, 8, 0, 255, 2, 9, 0])?;
     let pair = instruction([8, 3, 0, 0, 5, 6, 8, 0])?;
     let odd = instruction([1, 1, 0, 0, 4, 5, 9, 0])?;
-    let none = Valuations::NONE;
+    let none = Valuations { bits: 0 };
     assert!(rt; WriteClaim::new(mpy, 0, ALL).clashes(&WriteClaim::new(add, 1, ALL)));
     assert!(rt; !WriteClaim::new(mpy, 0, ALL).clashes(&WriteClaim::new(add, 0, ALL)));
     assert!(rt; !WriteClaim::new(mpy, 0, ALL).clashes(&WriteClaim::new(add, 1, none)));

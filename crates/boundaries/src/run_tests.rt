@@ -3,7 +3,7 @@ use isa::condition::Condition;
 use runs::valuations::{Changes, Valuations};
 use std::test::Fail;
 
-const ALL: Valuations = Valuations::ALL;
+const ALL: Valuations = Valuations { bits: u64::MAX };
 
 // Whether some run performs a write of packet 0 under the first condition byte, and one of the last packet under the second.
 fn both(

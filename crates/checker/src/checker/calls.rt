@@ -147,7 +147,7 @@ impl<R: Repertoire> Checker<R> {
         ensures stands { Stands result.checker (opened lawful) }
         ensures rules { (result.checker.repertoire ≡ repertoire) × (result.checker.history.lawful ≡ lawful) }
     {
-        if lawful.bits != 0 {
+        if lawful != Valuations::NONE {
             return Opened {
                 checker: Checker::begun(repertoire, lawful, State::Idle),
                 refused: None,
